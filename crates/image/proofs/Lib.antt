@@ -1,0 +1,4 @@
+-- The laws of `image` that later layers cite.
+pub mod Splice
+pub mod Part
+pub mod Writes

@@ -1,0 +1,61 @@
+-- `image::zero` meets its contract. The loop's invariant: the image is the one at entry with the zeros passed written over it. Assumes nothing.
+use mathlib.Core.Path.{_≡_, refl, sym, ap, _∙_}
+use Prim.Native.Nat.{_-_, _≤_}
+use native.Mathlib.Omega.{arith}
+use denote.Ref.{now}
+use lib.ListN.{length, take, length-set}
+use lib.Seq.{take-all}
+use Rattle.image.specs.Image.{splice, zeros}
+use Rattle.image.proofs.Splice.{splice-nil, zeros-next, length-zeros}
+use Rattle.image.proofs.zero.Statement.{statement}
+use Rattle.image.proofs.zero.Tie as tie
+
+abbrev Inv-loop : tie.InvT-loop
+Inv-loop image₀ at count done₀ image done = (done ≤ count) × (length image ≡ length image₀) × (image ≡ splice image₀ at (take done (zeros count)))
+
+abbrev μ-loop : tie.MeasureT-loop
+μ-loop image₀ at count done₀ image done = count - done
+
+loop-holds : tie.Need-loop-holds Inv-loop μ-loop
+loop-holds c = (omega arith, refl, sym (splice-nil _ _))
+
+add-image : tie.Need-add-image Inv-loop μ-loop
+add-image c = omega arith
+
+slice-write-image : tie.Need-slice-write-image Inv-loop μ-loop
+slice-write-image c = omega arith
+
+add-done : tie.Need-add-done Inv-loop μ-loop
+add-done c = omega arith
+
+loop-less : tie.Need-loop-less Inv-loop μ-loop
+loop-less c = omega arith
+
+loop-again : tie.Need-loop-again Inv-loop μ-loop
+loop-again c =
+    let a = c .before .before .args in
+    let l = c .before .loop in
+    (omega arith, simp length-set (l .inv .1), zeros-next (now (a .image)) (a .at) (a .count) (l .image) (l .done) (l .inv .2) (omega arith) (omega arith))
+
+same-length : tie.Need-same-length Inv-loop μ-loop
+same-length c = omega arith
+
+returns : tie.Need-returns Inv-loop μ-loop
+returns c =
+    let n = c .before .before .args .count in
+    c .before .loop .inv .2 ∙ ap (splice _ _) (take-all (c .before .loop .done) (zeros n) (omega (arith, length-zeros n)))
+
+pub zero-spec : {M : Type 1} → statement M
+zero-spec =
+    tie.close
+    (tie.spec
+    Inv-loop
+    μ-loop
+    loop-holds
+    add-image
+    slice-write-image
+    add-done
+    loop-less
+    loop-again
+    same-length
+    returns)

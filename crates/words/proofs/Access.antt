@@ -1,0 +1,68 @@
+-- Reading words of an image: a word in bytes and in halves, after a write of it, and apart from a write. Assumes nothing.
+use Prim.Native.Nat.{ℕ, suc, _+_, _*_, _^_, _≤_, _<_}
+use mathlib.Core.Path.{_≡_, ap, _∙_, subst}
+use mathlib.Core.List.{List, [], _∷_, _++_}
+use native.Mathlib.Omega.{arith}
+use native.Mathlib.Numerals.{add-one}
+use lib.ListN.{length, take, drop, getD}
+use lib.Seq.{drop-cons}
+use lib.IntN.{ℤ}
+use mir.Syntax.{Width}
+use mir.Val.{bits, bytes, SFits}
+use mir.Facts.{fits-ofZ}
+use Rattle.image.specs.Image.{part, splice}
+use Rattle.image.specs.Writes.{Write, writes, Apart}
+use Rattle.image.proofs.Part.{part-add, part-before, part-behind, part-same, length-part}
+use Rattle.image.proofs.Writes.{writes-keep}
+use Rattle.words.specs.Word.{number, numeral, integer4, integer8, bitsAt, signedAt, bitsOf, signedNumeral}
+use Rattle.words.proofs.Number.{length-numeral, number-numeral, number-append}
+use Rattle.words.proofs.Signed.{signed-bits, range-bytes}
+
+part-cons : (image : List ℕ) (at n b : ℕ) → at < length image → b ≡ at + 1 → part image at (suc n) ≡ getD image at 0 ∷ part image b n
+unfolding part
+part-cons image at n b h e = rw (e, add-one, drop-cons image at 0)
+
+-- the four bytes that a reader reads
+pub part-four : (image : List ℕ) (at : ℕ) → at + 4 ≤ length image
+    → part image at 4 ≡ getD image at 0 ∷ getD image (at + 1) 0 ∷ getD image (at + 2) 0 ∷ getD image (at + 3) 0 ∷ []
+unfolding part
+part-four image at h =
+    rw (
+      part-cons image at 3 (at + 1) (omega arith) (omega arith),
+      part-cons image (at + 1) 2 (at + 2) (omega arith) (omega arith),
+      part-cons image (at + 2) 1 (at + 3) (omega arith) (omega arith),
+      part-cons image (at + 3) 0 (at + 4) (omega arith) (omega arith),
+    )
+
+-- an Integer*8 is two words, the low one first
+pub bits-halves : (image : List ℕ) (at : ℕ) → at + 8 ≤ length image
+    → bitsAt integer8 image at ≡ bitsAt integer4 image at + 4294967296 * bitsAt integer4 image (at + 4)
+unfolding bitsAt
+bits-halves image at h =
+    ap number (part-add image at 4 4) ∙ number-append (part image at 4) (part image (at + 4) 4)
+    ∙ ap (λ (k : ℕ). number (part image at 4) + 256 ^ k * number (part image (at + 4) 4)) (length-part image at 4 (omega arith))
+
+-- a word that was written is read there: its bits, and its value
+pub bits-written : (w : Width) (image : List ℕ) (at u : ℕ) → u < 2 ^ bits w → at + bytes w ≤ length image
+    → bitsAt w (splice image at (numeral (bytes w) u)) at ≡ u
+unfolding bitsAt
+bits-written w image at u f h =
+    ap number (part-same image at (bytes w) (numeral (bytes w) u) (omega (arith, length-numeral (bytes w) u)) h)
+    ∙ number-numeral (bytes w) u (subst (λ (k : ℕ). u < k) (range-bytes w) f)
+
+pub signed-written : (w : Width) (image : List ℕ) (at : ℕ) (z : ℤ) → SFits w z → at + bytes w ≤ length image
+    → signedAt w (splice image at (signedNumeral w z)) at ≡ z
+signed-written w image at z f h = rw (bits-written w image at (bitsOf w z) (fits-ofZ f .fits) h) (signed-bits w z f)
+
+-- a word that ends before a write, starts behind it, or is met by none of a list of writes is as it was
+pub bits-before : (w : Width) (image : List ℕ) (at b : ℕ) (ys : List ℕ) → at + bytes w ≤ b → bitsAt w (splice image b ys) at ≡ bitsAt w image at
+unfolding bitsAt
+bits-before w image at b ys h = ap number (part-before image at (bytes w) b ys h)
+
+pub bits-behind : (w : Width) (image : List ℕ) (at b : ℕ) (ys : List ℕ) → b + length ys ≤ at → bitsAt w (splice image b ys) at ≡ bitsAt w image at
+unfolding bitsAt
+bits-behind w image at b ys h = ap number (part-behind image at (bytes w) b ys h)
+
+pub bits-keep : (w : Width) (image : List ℕ) (ws : List Write) (at : ℕ) → Apart at (bytes w) ws → bitsAt w (writes image ws) at ≡ bitsAt w image at
+unfolding bitsAt
+bits-keep w image ws at h = ap number (writes-keep image ws at (bytes w) h)

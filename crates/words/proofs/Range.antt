@@ -1,0 +1,51 @@
+-- A test on a signed reading is a test on the bits without a sign: a negative value's bits are above every bound. Assumes nothing.
+use Prim.Native.Nat.{ℕ, _^_, _≤_, _<_}
+use mathlib.Core.Path.{_≡_, refl, sym, ap, _∙_, subst}
+use mathlib.Core.Bool.{Bool, true, false, _&&_}
+use native.Mathlib.Omega.{arith}
+use borrow.Author.Tests.{lt-leb, leb-true, ltb-true, ltb-false}
+use lib.Dec.{T, ltb, leb}
+use lib.IntN.{pos}
+use mir.Syntax.{Width}
+use mir.Val.{hbits}
+use Rattle.words.specs.Word.{signedOf}
+use Rattle.words.specs.Range.{within, atLeast}
+use Rattle.words.proofs.Signed.{signed-low}
+
+and-false : (b : Bool) → b && false ≡ false
+and-false true = refl
+and-false false = refl
+
+and-true : (b : Bool) → b ≡ b && true
+and-true true = refl
+and-true false = refl
+
+module _ (w : Width) (low high u : ℕ) (h : high < 2 ^ hbits w) where
+  pub within-bits : within low high (signedOf w u) ≡ leb low u && leb u high
+  unfolding within
+  within-bits = by (ltb u (2 ^ hbits w)) refl
+    where
+      by : (b : Bool) → ltb u (2 ^ hbits w) ≡ b → within low high (signedOf w u) ≡ leb low u && leb u high
+      by true e = rw (signed-low w u (ltb-true u (2 ^ hbits w) e))
+      by false e =
+          let k : 2 ^ hbits w ≤ u = ltb-false u (2 ^ hbits w) e in
+          rw (e, lt-leb u high (omega arith)) (sym (and-false (leb low u)))
+
+  -- a value within bounds is its bits
+  pub within-value : within low high (signedOf w u) ≡ true → signedOf w u ≡ pos u
+  within-value t = by (leb u high) refl
+    where
+      false-true : {X : Type 0} → _≡_ {A = Bool} false true → X
+      false-true e = absurd (subst T (sym e) tt)
+
+      by : (b : Bool) → leb u high ≡ b → signedOf w u ≡ pos u
+      by true e = signed-low w u (let k = leb-true u high e in omega arith)
+      by false e = false-true (sym (and-false (leb low u)) ∙ ap (λ (b : Bool). leb low u && b) (sym e) ∙ sym within-bits ∙ t)
+
+pub atLeast-bits : (w : Width) (low u : ℕ) → atLeast low (signedOf w u) ≡ leb low u && ltb u (2 ^ hbits w)
+unfolding atLeast
+atLeast-bits w low u = by (ltb u (2 ^ hbits w)) refl
+  where
+    by : (b : Bool) → ltb u (2 ^ hbits w) ≡ b → atLeast low (signedOf w u) ≡ leb low u && ltb u (2 ^ hbits w)
+    by true e = rw (signed-low w u (ltb-true u (2 ^ hbits w) e), e) (and-true (leb low u))
+    by false e = rw e (sym (and-false (leb low u)))

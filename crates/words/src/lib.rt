@@ -1,0 +1,21 @@
+// Words of a file image: the memo's Integer*4 and Integer*8, read and written as bits and as signed
+// values.
+//
+// Offsets count bytes from 0. A reader says which number the bytes at an offset stand for, a writer
+// what the whole image holds at exit. A caller shows that the word lies within the image.
+mod read;
+mod sign;
+mod write;
+
+pub use read::i32_at;
+pub use read::i64_at;
+pub use read::u32_at;
+pub use read::u64_at;
+pub use sign::bits32;
+pub use sign::bits64;
+pub use sign::signed32;
+pub use sign::signed64;
+pub use write::put_i32;
+pub use write::put_i64;
+pub use write::put_u32;
+pub use write::put_u64;

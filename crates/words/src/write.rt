@@ -1,0 +1,66 @@
+// Writing a word at an offset.
+use super::sign::bits32;
+use super::sign::bits64;
+ghost use mathlib.Core.Path.{_≡_};
+ghost use Prim.Native.Nat.{_+_, _≤_};
+ghost use lib.ListN.{length};
+ghost use Rattle.image.specs.Image.{splice};
+ghost use Rattle.words.specs.Word.{numeral, integer4, integer8, signedNumeral};
+
+// Writes the Integer*4 with these bits at offset `at`.
+pub fn put_u32(image: &mut [u8], at: usize, bits: u32)
+    requires { ⌜ at + 4 ≤ length (now image) ⌝ }
+    ensures { λ _. ⌜ now (image .exit) ≡ splice (now (image .entry)) at (numeral 4 bits) ⌝ }
+{
+    let second = bits / 256;
+    let third = second / 256;
+    let fourth = third / 256;
+    let bytes = [
+        (bits % 256) as u8,
+        (second % 256) as u8,
+        (third % 256) as u8,
+        (fourth % 256) as u8,
+    ];
+    image::put(image, at, &bytes)
+}
+
+// Writes the Integer*8 with these bits at offset `at`.
+pub fn put_u64(image: &mut [u8], at: usize, bits: u64)
+    requires { ⌜ at + 8 ≤ length (now image) ⌝ }
+    ensures { λ _. ⌜ now (image .exit) ≡ splice (now (image .entry)) at (numeral 8 bits) ⌝ }
+{
+    let second = bits / 256;
+    let third = second / 256;
+    let fourth = third / 256;
+    let fifth = fourth / 256;
+    let sixth = fifth / 256;
+    let seventh = sixth / 256;
+    let eighth = seventh / 256;
+    let bytes = [
+        (bits % 256) as u8,
+        (second % 256) as u8,
+        (third % 256) as u8,
+        (fourth % 256) as u8,
+        (fifth % 256) as u8,
+        (sixth % 256) as u8,
+        (seventh % 256) as u8,
+        (eighth % 256) as u8,
+    ];
+    image::put(image, at, &bytes)
+}
+
+// Writes a value as the Integer*4 at offset `at`.
+pub fn put_i32(image: &mut [u8], at: usize, value: i32)
+    requires { ⌜ at + 4 ≤ length (now image) ⌝ }
+    ensures { λ _. ⌜ now (image .exit) ≡ splice (now (image .entry)) at (signedNumeral integer4 value) ⌝ }
+{
+    put_u32(image, at, bits32(value))
+}
+
+// Writes a value as the Integer*8 at offset `at`.
+pub fn put_i64(image: &mut [u8], at: usize, value: i64)
+    requires { ⌜ at + 8 ≤ length (now image) ⌝ }
+    ensures { λ _. ⌜ now (image .exit) ≡ splice (now (image .entry)) at (signedNumeral integer8 value) ⌝ }
+{
+    put_u64(image, at, bits64(value))
+}
