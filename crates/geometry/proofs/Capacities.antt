@@ -1,0 +1,99 @@
+-- Laws of the capacities for all callers: they stay within the limit and never shrink, and their totals rise. Assumes nothing.
+use mathlib.Core.Path.{_≡_, refl, sym, ap, _∙_, subst}
+use mathlib.Core.Bool.{Bool, true, false, _||_}
+use Prim.Native.Nat.{ℕ, zero, suc, _+_, _*_, _-_, _≤_, _<_}
+use native.Mathlib.Omega.{arith}
+use native.Mathlib.Nat.{mul-le-mul-left, lt-of-not-le}
+use native.Mathlib.Decide.{decLe}
+use native.Mathlib.Numerals.{add-one}
+use borrow.Author.Tests.{ltb-false}
+use lib.Dec.{T, ltb}
+use Rattle.geometry.specs.declared.growth.Growth.{Growth}
+use Rattle.geometry.specs.Growth.{grownOf, capacityOf, totalOf, overOf}
+use Rattle.geometry.proofs.Steps.{capacity-step, over-step}
+
+or-left : (a b : Bool) → a || b ≡ false → a ≡ false
+or-left true b e = e
+or-left false b e = refl
+
+or-right : (a b : Bool) → a || b ≡ false → b ≡ false
+or-right true b e = absurd (subst T e tt)
+or-right false b e = e
+
+module _ (g : Growth) where
+  over-less : (k d : ℕ) → overOf g (k + d) ≡ false → overOf g k ≡ false
+  over-less k zero e = let q : k + 0 ≡ k = omega arith in (rw q at e)
+  over-less k (suc d) e =
+      let q : k + suc d ≡ k + d + 1 = omega arith in
+      over-less k d (or-left (overOf g (k + d)) _ (sym (over-step g (k + d)) ∙ ap (overOf g) (sym q) ∙ e))
+
+  -- where the first n capacities are within the limit, fewer are
+  pub over-fewer : (k n : ℕ) → k ≤ n → overOf g n ≡ false → overOf g k ≡ false
+  over-fewer k n h e = let q : k + (n - k) ≡ n = omega arith in over-less k (n - k) (ap (overOf g) q ∙ e)
+
+  -- where they are not, more are not
+  pub over-more : (k n : ℕ) → k ≤ n → overOf g k ≡ true → overOf g n ≡ true
+  over-more k n h e = by (overOf g n) refl
+    where
+      by : (b : Bool) → overOf g n ≡ b → overOf g n ≡ true
+      by true q = q
+      by false q = q ∙ sym (over-fewer k n h q) ∙ e
+
+  -- with those before it within the limit, one more is over it by its own capacity alone
+  pub over-next : (k : ℕ) → overOf g k ≡ false → overOf g (k + 1) ≡ ltb 16384 (capacityOf g (k + 1))
+  over-next k e = over-step g k ∙ ap (λ (b : Bool). b || ltb 16384 (capacityOf g (k + 1))) e
+
+  -- each capacity within the limit is at most 16,384
+  pub capacity-limit : (k n : ℕ) → 1 ≤ k → k ≤ n → overOf g n ≡ false → capacityOf g k ≤ 16384
+  unfolding overOf
+  capacity-limit zero n h l e = absurd (omega arith)
+  capacity-limit (suc k) n h l e = ltb-false 16384 (capacityOf g (suc k)) (or-right (overOf g k) _ (over-fewer (suc k) n l e))
+
+  -- the totals, one extension after the other
+  pub total-none : totalOf g 0 ≡ 0
+  unfolding totalOf
+  total-none = refl
+
+  pub total-next : (k : ℕ) → totalOf g (k + 1) ≡ totalOf g k + capacityOf g (k + 1)
+  unfolding totalOf
+  total-next k = rw add-one
+
+  pub total-last : (k : ℕ) → 1 ≤ k → totalOf g k ≡ totalOf g (k - 1) + capacityOf g k
+  total-last k h = let q : k - 1 + 1 ≡ k = omega arith in (rw q at (total-next (k - 1)))
+
+  total-plus : (k d : ℕ) → totalOf g k ≤ totalOf g (k + d)
+  total-plus k zero = let q : k + 0 ≡ k = omega arith in rw q (omega arith)
+  total-plus k (suc d) = let q : k + suc d ≡ k + d + 1 = omega arith in rw q (omega (arith, total-next (k + d), total-plus k d))
+
+  pub total-le : (k n : ℕ) → k ≤ n → totalOf g k ≤ totalOf g n
+  total-le k n h = let q : k + (n - k) ≡ n = omega arith in (rw q at (total-plus k (n - k)))
+
+  pub total-before : (k n : ℕ) → totalOf g k < totalOf g n → k < n
+  total-before k n h = elim (decLe n k) [ yes l ↦ absurd (omega (arith, total-le n k l)) | no l ↦ lt-of-not-le l ]
+
+  pub total-limit : (k n : ℕ) → k ≤ n → overOf g n ≡ false → totalOf g k ≤ k * 16384
+  unfolding totalOf
+  total-limit zero n h e = omega arith
+  total-limit (suc k) n h e = omega (arith, total-limit k n (omega arith) e, capacity-limit (suc k) n (omega arith) h e)
+
+  -- a growth that the rules admit never shrinks
+  module _ (lex1-low : 1 ≤ g .lex1) (gex-low : 10 ≤ g .gex) where
+    pub capacity-rise : (k : ℕ) → 1 ≤ k → capacityOf g k ≤ capacityOf g (k + 1)
+    capacity-rise k h = rw (capacity-step g k h) (omega (arith, mul-le-mul-left (capacityOf g k) gex-low))
+
+    capacity-plus : (k d : ℕ) → 1 ≤ k → capacityOf g k ≤ capacityOf g (k + d)
+    capacity-plus k zero h = let q : k + 0 ≡ k = omega arith in rw q (omega arith)
+    capacity-plus k (suc d) h =
+        let q : k + suc d ≡ k + d + 1 = omega arith in
+        rw q (omega (arith, capacity-rise (k + d) (omega arith), capacity-plus k d h))
+
+    pub capacity-le : (k n : ℕ) → 1 ≤ k → k ≤ n → capacityOf g k ≤ capacityOf g n
+    capacity-le k n h l = let q : k + (n - k) ≡ n = omega arith in (rw q at (capacity-plus k (n - k) h))
+
+    pub capacity-some : (k : ℕ) → 1 ≤ k → 1 ≤ capacityOf g k
+    unfolding capacityOf
+    capacity-some k h = omega (arith, capacity-le 1 k (omega arith) h)
+
+    pub total-lt : (k n : ℕ) → k < n → totalOf g k < totalOf g n
+    total-lt k n h =
+        omega (arith, total-le (k + 1) n (omega arith), total-next k, capacity-some (k + 1) (omega arith))

@@ -1,0 +1,18 @@
+-- From one capacity to the next, for the loops of this crate. Nothing else cites these. Assumes nothing.
+use mathlib.Core.Path.{_≡_, refl}
+use mathlib.Core.Bool.{_||_}
+use Prim.Native.Nat.{ℕ, zero, suc, _+_, _-_, _≤_}
+use native.Mathlib.Omega.{arith}
+use native.Mathlib.Numerals.{add-one}
+use lib.Dec.{ltb}
+use Rattle.geometry.specs.declared.growth.Growth.{Growth}
+use Rattle.geometry.specs.Growth.{grownOf, capacityOf, overOf}
+
+pub capacity-step : (g : Growth) (k : ℕ) → 1 ≤ k → capacityOf g (k + 1) ≡ grownOf g (capacityOf g k)
+unfolding capacityOf
+capacity-step g zero h = absurd (omega arith)
+capacity-step g (suc k) h = rw add-one
+
+pub over-step : (g : Growth) (k : ℕ) → overOf g (k + 1) ≡ overOf g k || ltb 16384 (capacityOf g (k + 1))
+unfolding overOf
+over-step g k = rw add-one

@@ -1,0 +1,118 @@
+-- `geometry::area::slot_of` meets its contract. The loop's invariant: `extension` is in use, `capacity` is its own, and `before` is the total of those before it, which does not reach the entry. Assumes nothing.
+use mathlib.Core.Path.{_≡_, refl, sym, ap, _∙_}
+use Prim.Native.Nat.{ℕ, zero, suc, _-_, _+_, _*_, _≤_, _<_}
+use native.Mathlib.Omega.{arith}
+use native.Mathlib.Nat.{mul-le-mul}
+use Rattle.geometry.specs.declared.growth.Growth.{Growth}
+use Rattle.geometry.specs.Growth.{grownOf, capacityOf, totalOf}
+use Rattle.geometry.specs.Area.{slotAt, slotOf}
+use Rattle.geometry.proofs.Steps.{capacity-step}
+use Rattle.geometry.proofs.Capacities.{total-none, total-last, total-before, capacity-limit, total-limit}
+use Rattle.geometry.proofs.Slots.{Holds, holder-only, extension-holds}
+use Rattle.geometry.proofs.area.slot_of.Statement.{statement}
+use Rattle.geometry.proofs.area.slot_of.Tie as tie
+
+abbrev Inv-loop : tie.InvT-loop
+Inv-loop growth nex lind number extension₀ before₀ capacity₀ extension before capacity = (1 ≤ extension) × (extension ≤ nex) × (capacity ≡ capacityOf growth extension) × (before ≡ totalOf growth (extension - 1)) × (before < number)
+
+abbrev μ-loop : tie.MeasureT-loop
+μ-loop growth nex lind number extension₀ before₀ capacity₀ extension before capacity = nex - extension
+
+-- an entry within the total has an extension in use
+in-use : (g : Growth) (n e : ℕ) → 1 ≤ e → e ≤ totalOf g n → 1 ≤ n
+in-use g zero e h l = absurd (omega (arith, total-none g))
+in-use g (suc n) e h l = omega arith
+
+-- the numbers are small
+room : (c : tie.At-loop Inv-loop μ-loop) → (c .loop .capacity ≤ 16384) × (c .loop .before ≤ 16 * 16384)
+room c =
+    let s = c .before in
+    let within = s .pre .1 .within in
+    let own = capacity-limit (s .args .growth) (c .loop .extension) (s .args .nex) (c .loop .inv .0) (c .loop .inv .1) within in
+    let others = total-limit (s .args .growth) (c .loop .extension - 1) (s .args .nex) (omega arith) within in
+    (omega arith, omega arith)
+
+-- the extensions up to this one reach as far as the loop tests
+reach : (c : tie.At-loop Inv-loop μ-loop) → c .loop .before + c .loop .capacity ≡ totalOf (c .before .args .growth) (c .loop .extension)
+reach c = omega (arith, total-last (c .before .args .growth) (c .loop .extension) (c .loop .inv .0))
+
+-- in a turn another extension is in use
+further : (c : tie.In-loop Inv-loop μ-loop) → c .before .loop .extension + 1 ≤ c .before .before .args .nex
+further c =
+    let s = c .before .before in
+    omega (arith, total-before (s .args .growth) (c .before .loop .extension) (s .args .nex) (omega (arith, reach (c .before), s .pre .4)))
+
+loop-holds : tie.Need-loop-holds Inv-loop μ-loop
+unfolding capacityOf
+loop-holds c =
+    let some = in-use (c .args .growth) (c .args .nex) (c .args .entry .0) (c .pre .3) (c .pre .4) in
+    (omega arith, some, refl, sym (total-none _), omega arith)
+
+add-loop : tie.Need-add-loop Inv-loop μ-loop
+add-loop c = omega (arith, room c)
+
+add-before : tie.Need-add-before Inv-loop μ-loop
+add-before c = omega (arith, room (c .before))
+
+grown-requires : tie.Need-grown-requires Inv-loop μ-loop
+grown-requires c κs = (c .before .before .pre .1 .gex-high, room (c .before) .0)
+
+add-extension : tie.Need-add-extension Inv-loop μ-loop
+add-extension c = omega arith
+
+loop-less : tie.Need-loop-less Inv-loop μ-loop
+loop-less c = omega (arith, further (c .before))
+
+loop-again : tie.Need-loop-again Inv-loop μ-loop
+loop-again c =
+    let g = c .before .before .before .args .growth in
+    let l = c .before .before .loop in
+    let k : l .extension + 1 - 1 ≡ l .extension = omega arith in (
+      omega arith,
+      further (c .before),
+      c .grown .ensures ∙ ap (grownOf g) (l .inv .2) ∙ sym (capacity-step g (l .extension) (l .inv .0)),
+      rw k (reach (c .before .before)),
+      c .before .loop-test .taken,
+    )
+
+sub-place : tie.Need-sub-place Inv-loop μ-loop
+sub-place c = omega arith
+
+sub-t13 : tie.Need-sub-t13 Inv-loop μ-loop
+sub-t13 c = omega arith
+
+mul-t14 : tie.Need-mul-t14 Inv-loop μ-loop
+mul-t14 c =
+    let s = c .before .before in
+    let low : s .args .entry .0 - c .before .loop .before - 1 ≤ 16384 = omega (arith, room (c .before)) in
+    omega (arith, mul-le-mul low (s .pre .2))
+
+returns : tie.Need-returns Inv-loop μ-loop
+unfolding slotOf
+returns c =
+    let s = c .before .before in
+    let l = c .before .loop in
+    let n = s .args .entry .0 in
+    let here : Holds (s .args .growth) n (l .extension) =
+    record { counted = l .inv .0; behind = omega arith; reached = omega (arith, reach (c .before)) } in
+    let there = extension-holds (s .args .growth) (s .args .nex) n (s .pre .3) (s .pre .4) in
+    ap (λ (b : ℕ). slotAt (l .extension) (n - b) (s .args .lind)) (l .inv .3)
+    ∙ ap (λ (k : ℕ). slotAt k (n - totalOf (s .args .growth) (k - 1)) (s .args .lind)) (holder-only (s .args .growth) n _ _ here (there .0))
+
+pub slot-of-spec : {M : Type 1} → statement M
+slot-of-spec =
+    tie.close
+    (tie.spec
+    Inv-loop
+    μ-loop
+    loop-holds
+    add-loop
+    add-before
+    grown-requires
+    add-extension
+    loop-less
+    loop-again
+    sub-place
+    sub-t13
+    mul-t14
+    returns)

@@ -1,0 +1,4 @@
+-- What the contracts of `geometry` cite.
+pub mod Units
+pub mod Growth
+pub mod Area

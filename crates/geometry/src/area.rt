@@ -1,0 +1,55 @@
+// Index areas: how many records one takes, and where in it an entry has its slot.
+use super::growth::Growth;
+use super::growth::grown;
+use super::units::EntryNumber;
+use super::units::ExtensionNumber;
+ghost use mathlib.Core.Path.{_≡_};
+ghost use Prim.Native.Nat.{_+_, _^_, _≤_, _<_};
+ghost use Rattle.geometry.specs.Growth.{totalOf, Growing};
+ghost use Rattle.geometry.specs.Area.{recordsFor, areaRecords, slotOf};
+
+// Where an entry's index stands: the extension, the place among its slots counted from 1, and the
+// offset in words from the start of its area.
+pub struct Slot {
+    pub extension: ExtensionNumber,
+    pub place: u64,
+    pub offset: u64,
+}
+
+// How many whole records hold a count of words.
+pub fn records_for(words: u64, reclen: u64) -> u64
+    requires { ⌜ (1 ≤ reclen) × (words + reclen < 2 ^ 64) ⌝ }
+    ensures { λ r. ⌜ r ≡ recordsFor words reclen ⌝ }
+{
+    (words + (reclen - 1)) / reclen
+}
+
+// How many records an index area takes.
+pub fn area_records(capacity: u64, lind: u64, reclen: u64) -> u64
+    requires { ⌜ (capacity ≤ 16384) × (lind ≤ 256) × (1 ≤ reclen) × (reclen ≤ 4096) ⌝ }
+    ensures { λ r. ⌜ r ≡ areaRecords capacity lind reclen ⌝ }
+{
+    records_for(capacity * lind, reclen)
+}
+
+// The slot of an entry among those of the first `nex` extensions, where slots are `lind` words long.
+pub fn slot_of(growth: Growth, nex: u64, lind: u64, entry: EntryNumber) -> Slot
+    requires { ⌜ (nex ≤ 16) × Growing growth nex × (lind ≤ 256) × (1 ≤ entry .0) × (entry .0 ≤ totalOf growth nex) ⌝ }
+    ensures { λ r. ⌜ r ≡ slotOf growth nex lind entry ⌝ }
+{
+    let number = entry.0;
+    let mut extension = 1;
+    let mut before = 0;
+    let mut capacity = growth.lex1;
+    while before + capacity < number {
+        before += capacity;
+        capacity = grown(growth, capacity);
+        extension += 1;
+    }
+    let place = number - before;
+    Slot {
+        extension: ExtensionNumber(extension),
+        place,
+        offset: (place - 1) * lind,
+    }
+}
