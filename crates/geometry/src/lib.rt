@@ -28,4 +28,5 @@ pub use units::entry_position;
 pub use units::first_record_offset;
 pub use units::place_at;
 pub use units::position;
+pub use units::position_within;
 pub use units::table_index;

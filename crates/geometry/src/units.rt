@@ -1,6 +1,7 @@
 // Units counted from 1, and the named functions that turn them into positions and back.
 ghost use mathlib.Core.Path.{_≡_};
 ghost use Prim.Native.Nat.{_+_, _^_, _≤_, _<_};
+ghost use lib.Dec.{leb};
 ghost use Rattle.geometry.specs.Units.{positionOf, placeOf, entryPositionOf, entryAddressOf, offsetOf, firstRecordOffsetOf, entriesBefore, indexOf};
 
 // A record of the file.
@@ -30,6 +31,17 @@ pub fn position(reclen: u64, record: RecordNumber, word: WordNumber) -> u64
     ensures { λ r. ⌜ r ≡ positionOf reclen «record» word ⌝ }
 {
     (record.0 - 1) * reclen + (word.0 - 1)
+}
+
+// Whether the position of a record's word is at most `limit`, however large the record's number is.
+pub fn position_within(reclen: u64, record: RecordNumber, word: WordNumber, limit: u64) -> bool
+    requires { ⌜ (1 ≤ reclen) × (reclen ≤ 4096) × (1 ≤ «record» .0) × (1 ≤ word .0) × (word .0 ≤ 2 ^ 32) × (limit < 2 ^ 32) ⌝ }
+    ensures { λ r. ⌜ r ≡ leb (positionOf reclen «record» word) limit ⌝ }
+{
+    if limit < record.0 - 1 {
+        return false;
+    }
+    position(reclen, record, word) <= limit
 }
 
 // The record and word at a position.

@@ -1,5 +1,7 @@
 -- The laws of `words` that later layers cite.
 pub mod Number
 pub mod Signed
-pub mod Range
+pub mod Ranges
 pub mod Access
+pub mod Codes
+pub mod Table

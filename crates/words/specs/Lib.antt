@@ -1,3 +1,5 @@
--- What the contracts of `words` cite, and the tests on signed values that later layers state their rules by.
+-- What the contracts of `words` cite, and the tables of places that later layers hand out.
 pub mod Word
 pub mod Range
+pub mod Code
+pub mod Table

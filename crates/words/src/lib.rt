@@ -2,11 +2,17 @@
 // values.
 //
 // Offsets count bytes from 0. A reader says which number the bytes at an offset stand for, a writer
-// what the whole image holds at exit. A caller shows that the word lies within the image.
+// what the whole image holds at exit, a test what the signed value is. A caller shows that the word lies within the image.
+mod code;
+mod range;
 mod read;
 mod sign;
 mod write;
 
+pub use code::code_at;
+pub use range::at_least4;
+pub use range::at_least8;
+pub use range::within4;
 pub use read::i32_at;
 pub use read::i64_at;
 pub use read::u32_at;

@@ -49,3 +49,18 @@ atLeast-bits w low u = by (ltb u (2 ^ hbits w)) refl
     by : (b : Bool) → ltb u (2 ^ hbits w) ≡ b → atLeast low (signedOf w u) ≡ leb low u && ltb u (2 ^ hbits w)
     by true e = rw (signed-low w u (ltb-true u (2 ^ hbits w) e), e) (and-true (leb low u))
     by false e = rw e (sym (and-false (leb low u)))
+
+-- what holds of the bits where a test passed
+and-both : (a b : Bool) → a && b ≡ true → (a ≡ true) × (b ≡ true)
+and-both true b e = (refl, e)
+and-both false b e = absurd (subst T (sym e) tt)
+
+pub within-bounds : (w : Width) (low high u : ℕ) → high < 2 ^ hbits w → within low high (signedOf w u) ≡ true → (low ≤ u) × (u ≤ high)
+within-bounds w low high u h t =
+    let both = and-both (leb low u) (leb u high) (sym (within-bits w low high u h) ∙ t) in
+    (leb-true low u (both .0), leb-true u high (both .1))
+
+pub atLeast-bounds : (w : Width) (low u : ℕ) → atLeast low (signedOf w u) ≡ true → (low ≤ u) × (u < 2 ^ hbits w)
+atLeast-bounds w low u t =
+    let both = and-both (leb low u) (ltb u (2 ^ hbits w)) (sym (atLeast-bits w low u) ∙ t) in
+    (leb-true low u (both .0), ltb-true u (2 ^ hbits w) (both .1))

@@ -1,0 +1,94 @@
+-- What a file's refusal is made of, and what the answer of `validate` tells: the numbers that it gives are the file's, and admitted. Assumes nothing.
+use Prim.Native.Nat.{ℕ, _≤_}
+use mathlib.Core.Path.{_≡_, refl, sym, ap, _∙_}
+use mathlib.Core.Bool.{Bool, true, false, cond}
+use mathlib.Core.List.{List}
+use native.Mathlib.Omega.{arith}
+use borrow.Author.Tests.{leb-true, eqb-true}
+use lib.Dec.{leb, eqb}
+use lib.ListN.{length}
+use Rattle.words.specs.Code.{sameBytes}
+use Rattle.geometry.specs.declared.units.ExtensionNumber.{ExtensionNumber}
+use Rattle.descriptor.specs.declared.numbers.DescriptorNumbers.{DescriptorNumbers}
+use Rattle.descriptor.specs.declared.validating.Validated.{Validated}
+use Rattle.descriptor.specs.declared.validating.Validated.the-variants.{Numbers, Refused}
+use Rattle.descriptor.specs.declared.validating.Validation.{Validation}
+use Rattle.descriptor.specs.FirstRecord.{codeOf, fileCode, numbersOf, addressesOf}
+use Rattle.descriptor.specs.Rules.{settingRules, fillingRules, fileRules, settingRefusal, fillingRefusal, fileRefusal}
+use Rattle.descriptor.specs.Answers.{validationOf, noValidation, extensionIn, extensionOf}
+use Rattle.descriptor.specs.Bounds.{Admitted}
+use Rattle.descriptor.proofs.Refusals.{refusal-append, refusal-none, all-hold, hold-split}
+use Rattle.descriptor.proofs.Passed.{admitted}
+
+same-numbers : {m n : DescriptorNumbers} → Numbers m ≡ Numbers n → m ≡ n
+same-numbers e = cc
+
+not-numbers : {n : DescriptorNumbers} {k : ℕ} → Numbers n ≡ Refused k → ⊥
+not-numbers e = let z : _≡_ {A = ℕ} 0 1 = cc in omega arith
+
+module _ (file : List ℕ) where
+  abbrev d : DescriptorNumbers
+  d = numbersOf file
+
+  -- the rules in turn: the length, the code, the settings, the filling
+  pub file-short : leb 64 (length file) ≡ false → fileRefusal file ≡ 1
+  unfolding fileRefusal
+  file-short h = rw h
+
+  pub file-code : leb 64 (length file) ≡ true → sameBytes (codeOf file) fileCode ≡ false → fileRefusal file ≡ 2
+  unfolding fileRefusal
+  file-code h c = rw (h, c)
+
+  pub file-rest : leb 64 (length file) ≡ true → sameBytes (codeOf file) fileCode ≡ true
+      → fileRefusal file ≡ cond (eqb (settingRefusal (length file) d) 0) (fillingRefusal (length file) d (addressesOf file (d .nex))) (settingRefusal (length file) d)
+  unfolding fileRefusal settingRefusal fillingRefusal
+  file-rest h c = rw (h, c) (refusal-append (settingRules (length file) d) (fillingRules (length file) d (addressesOf file (d .nex))) (omega arith))
+
+  -- a file with no refusal passed them all
+  pub file-passed : fileRefusal file ≡ 0
+      → (64 ≤ length file) × (sameBytes (codeOf file) fileCode ≡ true) × (settingRefusal (length file) d ≡ 0) × (fillingRefusal (length file) d (addressesOf file (d .nex)) ≡ 0)
+  unfolding fileRefusal settingRefusal fillingRefusal
+  file-passed e =
+      let settings = settingRules (length file) d in
+      let filling = fillingRules (length file) d (addressesOf file (d .nex)) in
+      let a = all-hold (fileRules file d (addressesOf file (d .nex))) (omega arith) e in
+      let b = hold-split settings filling (a .1 .1) in
+      (leb-true 64 (length file) (a .0), a .1 .0, refusal-none settings (b .0), refusal-none filling (b .1))
+
+  -- so its numbers and addresses are admitted
+  pub file-admitted : fileRefusal file ≡ 0 → Admitted (length file) d (addressesOf file (d .nex))
+  file-admitted e = let p = file-passed e in admitted (length file) d (addressesOf file (d .nex)) (p .0) (p .2) (p .3)
+
+  -- the answer of `validate`, in its two cases
+  pub answer-numbers : fileRefusal file ≡ 0 → validationOf file ≡ record { refusal = 0; numbers = Numbers d; addresses = addressesOf file (d .nex) }
+  unfolding validationOf
+  answer-numbers e = simp e
+
+  pub answer-refused : (n : ℕ) → fileRefusal file ≡ n → eqb n 0 ≡ false → validationOf file ≡ noValidation n
+  unfolding validationOf
+  answer-refused n e h = simp (e, h)
+
+  -- taken apart: numbers that it gave are the file's own, with the file's own addresses, and admitted
+  pub record Told (v : Validation) (n : DescriptorNumbers) : Type 0 where
+    pub refusal : fileRefusal file ≡ 0
+    pub numbers : n ≡ d
+    pub addresses : v .addresses ≡ addressesOf file (d .nex)
+    pub admitted : Admitted (length file) n (v .addresses)
+
+  pub told : (v : Validation) (n : DescriptorNumbers) → v ≡ validationOf file → v .numbers ≡ Numbers n → Told v n
+  told v n e q = by (eqb (fileRefusal file) 0) refl
+    where
+      by : (b : Bool) → eqb (fileRefusal file) 0 ≡ b → Told v n
+      by true t =
+          let z = eqb-true (fileRefusal file) 0 t in
+          let w = e ∙ answer-numbers z in
+          let numbers : n ≡ d = same-numbers (sym q ∙ ap (λ (x : Validation). x .numbers) w) in
+          let addresses : v .addresses ≡ addressesOf file (d .nex) = ap (λ (x : Validation). x .addresses) w in
+          record { refusal = z; numbers = numbers; addresses = addresses; admitted = rw (numbers, addresses) (file-admitted z) }
+      by false t = absurd (not-numbers (sym q ∙ ap (λ (x : Validation). x .numbers) (e ∙ answer-refused (fileRefusal file) refl t)))
+
+  -- an extension, by the validation's case
+  pub extension-by : (k : ExtensionNumber) (v : Validation) (case : Validated) → v ≡ validationOf file → v .numbers ≡ case
+      → extensionOf file k ≡ extensionIn case (v .addresses) k
+  unfolding extensionOf
+  extension-by k v case e q = rw (← e, ← q)

@@ -1,0 +1,20 @@
+-- `descriptor::rules::mex` meets its contract. Assumes nothing.
+use native.Mathlib.Omega.{arith}
+use Rattle.descriptor.specs.FirstRecord.{mexOf}
+use borrow.Author.Needs.{needs}
+use Rattle.descriptor.proofs.rules.mex.Statement.{statement}
+use Rattle.descriptor.proofs.rules.mex.Tie as tie
+
+sub-room : tie.Need-sub-room
+sub-room c = search needs
+
+returns : tie.Need-returns
+unfolding mexOf
+returns c = omega arith
+
+returns-2 : tie.Need-returns-2
+unfolding mexOf
+returns-2 c = omega arith
+
+pub mex-spec : {M : Type 1} → statement M
+mex-spec = tie.close (tie.spec sub-room returns returns-2)

@@ -1,0 +1,87 @@
+-- The rules of the first record as one table in the order of 01, refusals 1 to 11.
+use Prim.Native.Nat.{ℕ, zero, suc, _+_, _*_, _-_, _/_, _%_, _^_}
+use mathlib.Core.Bool.{Bool, true, not, _&&_}
+use mathlib.Core.List.{List, [], _∷_, _++_}
+use lib.ListN.{length}
+use lib.Dec.{leb, ltb, eqb}
+use Rattle.words.specs.Word.{integer4, integer8, signedOf}
+use Rattle.words.specs.Range.{within, atLeast}
+use Rattle.words.specs.Code.{sameBytes}
+use Rattle.geometry.specs.declared.units.RecordNumber.{RecordNumber}
+use Rattle.geometry.specs.declared.growth.Growth.{Growth}
+use Rattle.geometry.specs.Units.{positionOf, offsetOf, entriesBefore}
+use Rattle.geometry.specs.Growth.{capacityOf, totalOf, overOf}
+use Rattle.geometry.specs.Area.{areaRecords}
+use Rattle.descriptor.specs.declared.numbers.DescriptorNumbers.{DescriptorNumbers}
+use Rattle.descriptor.specs.Refusal.{Rule, row, refusalIn}
+use Rattle.descriptor.specs.FirstRecord.{codeOf, fileCode, numbersOf, addressesOf, aexOf, mexOf, growthIn, freeOf}
+
+-- n entries fit nex extensions: both are 0, or n is at most the first nex capacities together and more than the first nex - 1 together
+unfoldable pub entriesFit : Growth → ℕ → ℕ → Bool
+entriesFit g zero n = eqb n 0
+entriesFit g (suc k) n = leb n (totalOf g (suc k)) && ltb (totalOf g k) n
+
+-- the record after area k; record 2 is the first that an area may have
+unfoldable pub areaAfter : DescriptorNumbers → List RecordNumber → ℕ → ℕ
+areaAfter d addresses zero = 2
+areaAfter d addresses (suc k) = aexOf addresses (suc k) .0 + areaRecords (capacityOf (growthIn d) (suc k)) (d .lind) (d .reclen)
+
+-- the first k areas start at record 2 or later, each at or after the end of the one before
+unfoldable pub areasStart : DescriptorNumbers → List RecordNumber → ℕ → Bool
+areasStart d addresses zero = true
+areasStart d addresses (suc k) =
+    areasStart d addresses k && atLeast (areaAfter d addresses k) (signedOf integer8 (aexOf addresses (suc k) .0))
+
+-- the last area ends at or before the next free position
+unfoldable pub areasEnd : DescriptorNumbers → List RecordNumber → Bool
+areasEnd d addresses = leb (positionOf (d .reclen) (record { 0 = areaAfter d addresses (d .nex) }) (record { 0 = 1 })) (freeOf d)
+
+-- rules 3 to 8: the settings, over the count of bytes lent
+abbrev pub settingRules : ℕ → DescriptorNumbers → List Rule
+settingRules bytes d =
+    row 3 (within 16 4096 (signedOf integer4 (d .reclen))) ∷
+    row 4 (leb bytes (2 ^ 30)) ∷
+    row 4 (eqb (bytes % offsetOf (d .reclen)) 0) ∷
+    row 5 (within 1 3 (signedOf integer4 (d .kind))) ∷
+    row 6 (atLeast 2 (signedOf integer4 (d .vind))) ∷
+    row 6 (within 3 256 (signedOf integer4 (d .lind))) ∷
+    row 7 (within 0 1 (signedOf integer4 (d .flags))) ∷
+    row 8 (within 1 4096 (signedOf integer4 (d .lex1))) ∷
+    row 8 (within 10 20 (signedOf integer4 (d .gex))) ∷
+    row 8 (within 0 (mexOf (d .reclen)) (signedOf integer4 (d .nex))) ∷
+    row 8 (not (overOf (growthIn d) (d .nex))) ∷
+    []
+
+-- rules 9 to 11: how far the file is filled
+abbrev pub fillingRules : ℕ → DescriptorNumbers → List RecordNumber → List Rule
+fillingRules bytes d addresses =
+    row 9 (atLeast 1 (signedOf integer8 (d .xnext .0))) ∷
+    row 9 (entriesFit (growthIn d) (d .nex) (entriesBefore (d .xnext))) ∷
+    row 10 (atLeast 2 (signedOf integer8 (d .nextrec .0))) ∷
+    row 10 (within 1 (d .reclen) (signedOf integer4 (d .nextword .0))) ∷
+    row 10 (leb (freeOf d) (bytes / 4)) ∷
+    row 11 (areasStart d addresses (d .nex)) ∷
+    row 11 (areasEnd d addresses) ∷
+    []
+
+-- the refusals of these two parts, 0 where all their rules hold
+unfoldable pub settingRefusal : ℕ → DescriptorNumbers → ℕ
+settingRefusal bytes d = refusalIn (settingRules bytes d)
+
+unfoldable pub fillingRefusal : ℕ → DescriptorNumbers → List RecordNumber → ℕ
+fillingRefusal bytes d addresses = refusalIn (fillingRules bytes d addresses)
+
+-- the whole table
+abbrev pub fileRules : List ℕ → DescriptorNumbers → List RecordNumber → List Rule
+fileRules file d addresses =
+    row 1 (leb 64 (length file)) ∷
+    row 2 (sameBytes (codeOf file) fileCode) ∷
+    settingRules (length file) d ++ fillingRules (length file) d addresses
+
+-- creation's: 1, then 3 to 8
+abbrev pub creationRules : ℕ → DescriptorNumbers → List Rule
+creationRules bytes d = row 1 (leb 64 bytes) ∷ settingRules bytes d
+
+-- the refusal of a file, 0 when its descriptor is admitted
+unfoldable pub fileRefusal : List ℕ → ℕ
+fileRefusal file = refusalIn (fileRules file (numbersOf file) (addressesOf file (numbersOf file .nex)))

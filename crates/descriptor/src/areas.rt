@@ -1,0 +1,47 @@
+// The index areas of a file: whether they keep their order.
+use super::inner::aex;
+use super::inner::area_after;
+use super::inner::free_position;
+use super::numbers::DescriptorNumbers;
+use geometry::ExtensionNumber;
+use geometry::Growth;
+use geometry::RecordNumber;
+use geometry::WordNumber;
+use geometry::area_records;
+use geometry::capacity;
+use geometry::position_within;
+ghost use mathlib.Core.Path.{_≡_};
+ghost use mathlib.Core.Bool.{true};
+ghost use Prim.Native.Nat.{_^_, _<_};
+ghost use Rattle.descriptor.specs.FirstRecord.{freeOf};
+ghost use Rattle.descriptor.specs.Rules.{areasStart, areasEnd};
+ghost use Rattle.descriptor.specs.Bounds.{Settled, Free};
+
+// Whether the areas start at record 2 or later, each at or after the end of the one before.
+pub(crate) fn areas_start(d: DescriptorNumbers, addresses: [RecordNumber; 16]) -> bool
+    requires { ⌜ Settled d ⌝ }
+    ensures { λ r. ⌜ r ≡ areasStart d addresses (d .nex) ⌝ }
+{
+    let growth = Growth::new(d.lex1, d.gex);
+    let mut after = 2;
+    let mut passed = 0;
+    while passed < d.nex {
+        let extension = ExtensionNumber(passed + 1);
+        let first = aex(addresses, extension);
+        if !words::at_least8(first.0, after) {
+            return false;
+        }
+        after = first.0 + area_records(capacity(growth, extension), d.lind, d.reclen);
+        passed += 1;
+    }
+    true
+}
+
+// Whether the last area ends at or before the next free position.
+pub(crate) fn areas_end(d: DescriptorNumbers, addresses: [RecordNumber; 16]) -> bool
+    requires { ⌜ Settled d × Free d × (freeOf d < 2 ^ 32) × (areasStart d addresses (d .nex) ≡ true) ⌝ }
+    ensures { λ r. ⌜ r ≡ areasEnd d addresses ⌝ }
+{
+    let after = RecordNumber(area_after(d, addresses, d.nex));
+    position_within(d.reclen, after, WordNumber(1), free_position(d))
+}

@@ -1,0 +1,58 @@
+// The extensions of a file.
+use super::inner::aex;
+use super::validating::Validated;
+use super::validating::refusal_of;
+use super::validating::validate;
+use geometry::ExtensionNumber;
+use geometry::Growth;
+use geometry::RecordNumber;
+use geometry::area_records;
+use geometry::capacity;
+ghost use mathlib.Core.Path.{_≡_};
+ghost use Rattle.descriptor.specs.Answers.{extensionOf, noExtension};
+
+// The answer of `extension_of`: the refusal, 0 when there is such an extension; how many entries it
+// holds; and its index area, by its first record and its count of records.
+pub struct Extension {
+    pub refusal: u32,
+    pub capacity: u64,
+    pub first: RecordNumber,
+    pub records: u64,
+}
+
+// An extension with a refusal.
+fn refused(refusal: u32) -> Extension
+    ensures { λ r. ⌜ r ≡ noExtension refusal ⌝ }
+{
+    Extension {
+        refusal,
+        capacity: 0,
+        first: RecordNumber(0),
+        records: 0,
+    }
+}
+
+// An extension of a file by its number, or the refusal: 1 to 11, then 12.
+pub fn extension_of(file: &[u8], number: ExtensionNumber) -> Extension
+    ensures { λ r. ⌜ r ≡ extensionOf (now (file .entry)) number ⌝ }
+{
+    let validation = validate(file);
+    let case = validation.numbers;
+    let Validated::Numbers(d) = case else {
+        return refused(refusal_of(case));
+    };
+    if number.0 < 1 {
+        return refused(12);
+    }
+    if d.nex < number.0 {
+        return refused(12);
+    }
+    let addresses = validation.addresses;
+    let entries = capacity(Growth::new(d.lex1, d.gex), number);
+    Extension {
+        refusal: 0,
+        capacity: entries,
+        first: aex(addresses, number),
+        records: area_records(entries, d.lind, d.reclen),
+    }
+}

@@ -1,0 +1,119 @@
+// The numbers of a first record, read from a file or made for a new one.
+use geometry::EntryNumber;
+use geometry::ExtensionNumber;
+use geometry::RecordNumber;
+use geometry::WordNumber;
+use geometry::first_record_offset;
+ghost use mathlib.Core.Path.{_≡_};
+ghost use Prim.Native.Nat.{_+_, _*_, _≤_, _<_};
+ghost use lib.ListN.{length};
+ghost use Rattle.descriptor.specs.FirstRecord.{field4, field8, numbersOf, createdOf, addressesOf};
+
+// What a caller chooses for a new file.
+pub struct Settings {
+    pub reclen: i32,
+    pub kind: i32,
+    pub vind: i32,
+    pub lind: i32,
+    pub flags: i32,
+    pub lex1: i32,
+    pub gex: i32,
+}
+
+// The fields of a first record but the code and the addresses: as stored while they are tested, and
+// within their limits once they are validated.
+pub struct DescriptorNumbers {
+    pub reclen: u64,
+    pub kind: u64,
+    pub vind: u64,
+    pub lind: u64,
+    pub flags: u64,
+    pub xnext: EntryNumber,
+    pub nextrec: RecordNumber,
+    pub nextword: WordNumber,
+    pub lex1: u64,
+    pub nex: u64,
+    pub gex: u64,
+}
+
+impl DescriptorNumbers {
+    pub const RECLEN_MIN: u64 = 16;
+
+    pub const RECLEN_MAX: u64 = 4096;
+
+    pub const LIND_MIN: u64 = 3;
+
+    pub const LIND_MAX: u64 = 256;
+
+    pub const BYTES_MAX: u64 = 1073741824;
+
+    // The numbers of a new file with these settings.
+    pub fn new(settings: Settings) -> DescriptorNumbers
+        ensures { λ r. ⌜ r ≡ createdOf settings ⌝ }
+    {
+        DescriptorNumbers {
+            reclen: words::bits32(settings.reclen) as u64,
+            kind: words::bits32(settings.kind) as u64,
+            vind: words::bits32(settings.vind) as u64,
+            lind: words::bits32(settings.lind) as u64,
+            flags: words::bits32(settings.flags) as u64,
+            xnext: EntryNumber(1),
+            nextrec: RecordNumber(2),
+            nextword: WordNumber(1),
+            lex1: words::bits32(settings.lex1) as u64,
+            nex: 0,
+            gex: words::bits32(settings.gex) as u64,
+        }
+    }
+}
+
+// The bits of the Integer*4 at a word of the first record.
+fn field4_at(file: &[u8], word: u64) -> u64
+    requires { ⌜ (1 ≤ word) × (word ≤ 4096) × (4 * word ≤ length (now file)) ⌝ }
+    ensures { λ r. ⌜ r ≡ field4 (now (file .entry)) word ⌝ }
+{
+    words::u32_at(file, first_record_offset(WordNumber(word))) as u64
+}
+
+// The bits of the Integer*8 at a word of the first record and the next.
+fn field8_at(file: &[u8], word: u64) -> u64
+    requires { ⌜ (1 ≤ word) × (word ≤ 4096) × (4 * (word + 1) ≤ length (now file)) ⌝ }
+    ensures { λ r. ⌜ r ≡ field8 (now (file .entry)) word ⌝ }
+{
+    words::u64_at(file, first_record_offset(WordNumber(word)))
+}
+
+// The numbers as stored in a file.
+pub(crate) fn numbers_of(file: &[u8]) -> DescriptorNumbers
+    requires { ⌜ 64 ≤ length (now file) ⌝ }
+    ensures { λ r. ⌜ r ≡ numbersOf (now (file .entry)) ⌝ }
+{
+    DescriptorNumbers {
+        reclen: field4_at(file, 2),
+        kind: field4_at(file, 3),
+        vind: field4_at(file, 4),
+        lind: field4_at(file, 5),
+        flags: field4_at(file, 6),
+        xnext: EntryNumber(field8_at(file, 7)),
+        nextrec: RecordNumber(field8_at(file, 9)),
+        nextword: WordNumber(field4_at(file, 11)),
+        lex1: field4_at(file, 12),
+        nex: field4_at(file, 13),
+        gex: field4_at(file, 14),
+    }
+}
+
+// The addresses of the first `nex` extensions, in 16 places, the others zero.
+pub(crate) fn addresses_of(file: &[u8], nex: u64) -> [RecordNumber; 16]
+    requires { ⌜ (nex ≤ 16) × (4 * (14 + 2 * nex) ≤ length (now file)) ⌝ }
+    ensures { λ r. ⌜ r ≡ addressesOf (now (file .entry)) nex ⌝ }
+{
+    let mut table = [RecordNumber(0); 16];
+    let mut filled = 0;
+    while filled < nex {
+        let address = RecordNumber(field8_at(file, 15 + 2 * filled));
+        table[filled as usize] = address;
+        filled += 1;
+    }
+    table
+}

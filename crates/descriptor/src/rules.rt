@@ -1,0 +1,144 @@
+// The rules of a first record, tested in the order of their table.
+use super::areas::areas_end;
+use super::areas::areas_start;
+use super::numbers::DescriptorNumbers;
+use geometry::Growth;
+use geometry::RecordNumber;
+use geometry::WordNumber;
+use geometry::byte_offset;
+use geometry::entries_before;
+use geometry::first_record_offset;
+use geometry::position_within;
+use geometry::total;
+ghost use mathlib.Core.Path.{_≡_};
+ghost use Prim.Native.Nat.{_-_, _^_, _≤_};
+ghost use lib.ListN.{length};
+ghost use Rattle.words.specs.Code.{sameBytes};
+ghost use Rattle.geometry.specs.Growth.{Growing};
+ghost use Rattle.descriptor.specs.FirstRecord.{codeOf, fileCode, mexOf};
+ghost use Rattle.descriptor.specs.Rules.{entriesFit, settingRefusal, fillingRefusal};
+ghost use Rattle.descriptor.specs.Bounds.{Settled, Lent};
+
+// Whether the file begins with the code.
+pub(crate) fn code_holds(file: &[u8]) -> bool
+    requires { ⌜ 64 ≤ length (now file) ⌝ }
+    ensures { λ r. ⌜ r ≡ sameBytes (codeOf (now (file .entry))) fileCode ⌝ }
+{
+    words::code_at(
+        file,
+        first_record_offset(WordNumber(1)),
+        0x32,
+        0x41,
+        0x20,
+        0x20,
+    )
+}
+
+// The most extensions that a first record has room for.
+pub(crate) fn mex(reclen: u64) -> u64
+    requires { ⌜ 16 ≤ reclen ⌝ }
+    ensures { λ r. ⌜ r ≡ mexOf reclen ⌝ }
+{
+    let room = (reclen - 14) / 2;
+    if room <= Growth::EXTENSIONS_MAX {
+        room
+    } else {
+        Growth::EXTENSIONS_MAX
+    }
+}
+
+// Rules 3 to 8, on the numbers and the count of bytes lent: the first that is broken, or 0.
+pub(crate) fn setting_refusal(bytes: u64, d: DescriptorNumbers) -> u32
+    ensures { λ r. ⌜ r ≡ settingRefusal bytes d ⌝ }
+{
+    if !words::within4(
+        d.reclen,
+        DescriptorNumbers::RECLEN_MIN,
+        DescriptorNumbers::RECLEN_MAX,
+    ) {
+        return 3;
+    }
+    if DescriptorNumbers::BYTES_MAX < bytes {
+        return 4;
+    }
+    if bytes % (byte_offset(d.reclen) as u64) != 0 {
+        return 4;
+    }
+    if !words::within4(d.kind, 1, 3) {
+        return 5;
+    }
+    if !words::at_least4(d.vind, 2) {
+        return 6;
+    }
+    if !words::within4(
+        d.lind,
+        DescriptorNumbers::LIND_MIN,
+        DescriptorNumbers::LIND_MAX,
+    ) {
+        return 6;
+    }
+    if !words::within4(d.flags, 0, 1) {
+        return 7;
+    }
+    if !words::within4(d.lex1, Growth::LEX1_MIN, Growth::LEX1_MAX) {
+        return 8;
+    }
+    if !words::within4(d.gex, Growth::GEX_MIN, Growth::GEX_MAX) {
+        return 8;
+    }
+    if !words::within4(d.nex, 0, mex(d.reclen)) {
+        return 8;
+    }
+    if geometry::over(Growth::new(d.lex1, d.gex), d.nex) {
+        return 8;
+    }
+    0
+}
+
+// Whether n entries fit nex extensions.
+fn entries_fit(growth: Growth, nex: u64, n: u64) -> bool
+    requires { ⌜ (nex ≤ 16) × Growing growth nex ⌝ }
+    ensures { λ r. ⌜ r ≡ entriesFit growth nex n ⌝ }
+{
+    if nex == 0 {
+        return n == 0;
+    }
+    if total(growth, nex) < n {
+        return false;
+    }
+    total(growth, nex - 1) < n
+}
+
+// Rules 9 to 11, on settled numbers, the addresses and the count of bytes lent: the first that is
+// broken, or 0.
+pub(crate) fn filling_refusal(
+    bytes: u64,
+    d: DescriptorNumbers,
+    addresses: [RecordNumber; 16],
+) -> u32
+    requires { ⌜ Settled d × Lent bytes d ⌝ }
+    ensures { λ r. ⌜ r ≡ fillingRefusal bytes d addresses ⌝ }
+{
+    if !words::at_least8(d.xnext.0, 1) {
+        return 9;
+    }
+    if !entries_fit(Growth::new(d.lex1, d.gex), d.nex, entries_before(d.xnext)) {
+        return 9;
+    }
+    if !words::at_least8(d.nextrec.0, 2) {
+        return 10;
+    }
+    if !words::within4(d.nextword.0, 1, d.reclen) {
+        return 10;
+    }
+    if !position_within(d.reclen, d.nextrec, d.nextword, bytes / 4) {
+        return 10;
+    }
+    if !areas_start(d, addresses) {
+        return 11;
+    }
+    if !areas_end(d, addresses) {
+        return 11;
+    }
+    0
+}

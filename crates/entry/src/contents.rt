@@ -1,0 +1,155 @@
+// What an entry holds: its sections and its data, each a piece of it, tested as it stands in the file.
+//
+// An entry is known by the position of its first word. The descriptor with its tables lies within the
+// file, which the functions require.
+use geometry::EntryAddress;
+use geometry::byte_offset;
+use geometry::entry_position;
+ghost use mathlib.Core.Path.{_≡_};
+ghost use mathlib.Core.Bool.{true};
+ghost use Prim.Native.Nat.{_+_, _*_, _^_, _≤_, _<_};
+ghost use lib.ListN.{length};
+ghost use Rattle.entry.specs.EntryDescriptor.{word4, word8, sectionOf};
+ghost use Rattle.entry.specs.Contents.{pieceWithin, dataWithin, sectionsWithin, apart, apartFrom, sectionsApart, dataApart};
+ghost use Rattle.entry.specs.Bounds.{Described, Small};
+
+// A run of an entry's words.
+pub struct Piece {
+    pub address: EntryAddress,
+    pub words: u64,
+}
+
+// The bits of the Integer*4 at a word of the entry.
+pub(crate) fn word4_at(file: &[u8], start: u64, address: u64) -> u64
+    requires { ⌜ (1 ≤ address) × (4 * (start + address) ≤ length (now file)) ⌝ }
+    ensures { λ r. ⌜ r ≡ word4 (now (file .entry)) start address ⌝ }
+{
+    words::u32_at(
+        file,
+        byte_offset(entry_position(start, EntryAddress(address))),
+    ) as u64
+}
+
+// The bits of the Integer*8 at a word of the entry and the next.
+pub(crate) fn word8_at(file: &[u8], start: u64, address: u64) -> u64
+    requires { ⌜ (1 ≤ address) × (4 * (start + address + 1) ≤ length (now file)) ⌝ }
+    ensures { λ r. ⌜ r ≡ word8 (now (file .entry)) start address ⌝ }
+{
+    words::u64_at(
+        file,
+        byte_offset(entry_position(start, EntryAddress(address))),
+    )
+}
+
+// Section `i`, counted from 0.
+pub(crate) fn section_at(file: &[u8], start: u64, nsec: u64, i: u64) -> Piece
+    requires { ⌜ Described (length (now file)) start nsec × (i < nsec) ⌝ }
+    ensures { λ r. ⌜ r ≡ sectionOf (now (file .entry)) start nsec i ⌝ }
+{
+    Piece {
+        address: EntryAddress(word8_at(file, start, 12 + 3 * nsec + 2 * i)),
+        words: word8_at(file, start, 12 + nsec + 2 * i),
+    }
+}
+
+// Whether a piece lies within the words that content may have.
+pub(crate) fn piece_within(nsec: u64, nword: u64, piece: Piece) -> bool
+    requires { ⌜ (nsec ≤ 64) × (nword < 2 ^ 32) × (piece .words < 2 ^ 63) ⌝ }
+    ensures { λ r. ⌜ r ≡ pieceWithin nsec nword piece ⌝ }
+{
+    if !words::at_least8(piece.address.0, 12 + 5 * nsec) {
+        return false;
+    }
+    piece.address.0 + piece.words <= nword + 1
+}
+
+// The same of the data, where there is any.
+pub(crate) fn data_within(nsec: u64, nword: u64, piece: Piece) -> bool
+    requires { ⌜ (nsec ≤ 64) × (nword < 2 ^ 32) × (piece .words < 2 ^ 63) ⌝ }
+    ensures { λ r. ⌜ r ≡ dataWithin nsec nword piece ⌝ }
+{
+    if piece.words == 0 {
+        return true;
+    }
+    piece_within(nsec, nword, piece)
+}
+
+// Whether each section has a word at least and lies within the words that content may have.
+pub(crate) fn sections_within(file: &[u8], start: u64, nsec: u64, nword: u64) -> bool
+    requires { ⌜ Described (length (now file)) start nsec × (nword < 2 ^ 32) ⌝ }
+    ensures { λ r. ⌜ r ≡ sectionsWithin (now (file .entry)) start nsec nword nsec ⌝ }
+{
+    let mut passed = 0;
+    while passed < nsec {
+        let section = section_at(file, start, nsec, passed);
+        if !words::at_least8(section.words, 1) {
+            return false;
+        }
+        if !piece_within(nsec, nword, section) {
+            return false;
+        }
+        passed += 1;
+    }
+    true
+}
+
+// Whether two pieces share no word.
+pub(crate) fn pieces_apart(first: Piece, second: Piece) -> bool
+    requires { ⌜ Small first × Small second ⌝ }
+    ensures { λ r. ⌜ r ≡ apart first second ⌝ }
+{
+    if first.address.0 + first.words <= second.address.0 {
+        return true;
+    }
+    second.address.0 + second.words <= first.address.0
+}
+
+// Whether a piece shares no word with one of the first `count` sections.
+pub(crate) fn apart_from(
+    file: &[u8],
+    start: u64,
+    nsec: u64,
+    nword: u64,
+    piece: Piece,
+    count: u64,
+) -> bool
+    requires { ⌜ Described (length (now file)) start nsec × (nword < 2 ^ 32) × (sectionsWithin (now file) start nsec nword nsec ≡ true) × Small piece × (count ≤ nsec) ⌝ }
+    ensures { λ r. ⌜ r ≡ apartFrom (now (file .entry)) start nsec piece count ⌝ }
+{
+    let mut passed = 0;
+    while passed < count {
+        let section = section_at(file, start, nsec, passed);
+        if !pieces_apart(section, piece) {
+            return false;
+        }
+        passed += 1;
+    }
+    true
+}
+
+// Whether no two sections share a word.
+pub(crate) fn sections_apart(file: &[u8], start: u64, nsec: u64, nword: u64) -> bool
+    requires { ⌜ Described (length (now file)) start nsec × (nword < 2 ^ 32) × (sectionsWithin (now file) start nsec nword nsec ≡ true) ⌝ }
+    ensures { λ r. ⌜ r ≡ sectionsApart (now (file .entry)) start nsec nsec ⌝ }
+{
+    let mut passed = 0;
+    while passed < nsec {
+        let section = section_at(file, start, nsec, passed);
+        if !apart_from(file, start, nsec, nword, section, passed) {
+            return false;
+        }
+        passed += 1;
+    }
+    true
+}
+
+// Whether the data, where there is any, shares no word with a section.
+pub(crate) fn data_apart(file: &[u8], start: u64, nsec: u64, nword: u64, piece: Piece) -> bool
+    requires { ⌜ Described (length (now file)) start nsec × (nword < 2 ^ 32) × (sectionsWithin (now file) start nsec nword nsec ≡ true) × (dataWithin nsec nword piece ≡ true) ⌝ }
+    ensures { λ r. ⌜ r ≡ dataApart (now (file .entry)) start nsec piece ⌝ }
+{
+    if piece.words == 0 {
+        return true;
+    }
+    apart_from(file, start, nsec, nword, piece, nsec)
+}

@@ -1,0 +1,98 @@
+// The tables of an opened entry, and the section that an identifier names.
+use super::contents::section_at;
+use super::contents::word4_at;
+use geometry::EntryAddress;
+use geometry::byte_offset;
+use geometry::entry_position;
+ghost use mathlib.Core.Path.{_≡_};
+ghost use Prim.Native.Nat.{_+_, _*_, _≤_, _<_};
+ghost use lib.ListN.{length};
+ghost use Rattle.entry.specs.EntryDescriptor.{identifierAt};
+ghost use Rattle.entry.specs.Tables.{identifiersOf, lengthsOf, addressesOf, sectionsOf, sectionNamed};
+ghost use Rattle.entry.specs.Bounds.{Described};
+
+// The sections of an opened entry: the first nsec places of each table, the others zero.
+pub struct Sections {
+    pub identifiers: [i32; 64],
+    pub lengths: [u64; 64],
+    pub addresses: [EntryAddress; 64],
+}
+
+// The identifier of section `i`, counted from 0.
+pub(crate) fn identifier_at(file: &[u8], start: u64, nsec: u64, i: u64) -> i32
+    requires { ⌜ Described (length (now file)) start nsec × (i < nsec) ⌝ }
+    ensures { λ r. ⌜ r ≡ identifierAt (now (file .entry)) start i ⌝ }
+{
+    words::i32_at(
+        file,
+        byte_offset(entry_position(start, EntryAddress(12 + i))),
+    )
+}
+
+fn identifiers(file: &[u8], start: u64, nsec: u64) -> [i32; 64]
+    requires { ⌜ Described (length (now file)) start nsec ⌝ }
+    ensures { λ r. ⌜ r ≡ identifiersOf (now (file .entry)) start nsec ⌝ }
+{
+    let mut table = [0i32; 64];
+    let mut filled = 0;
+    while filled < nsec {
+        table[filled as usize] = identifier_at(file, start, nsec, filled);
+        filled += 1;
+    }
+    table
+}
+
+fn lengths(file: &[u8], start: u64, nsec: u64) -> [u64; 64]
+    requires { ⌜ Described (length (now file)) start nsec ⌝ }
+    ensures { λ r. ⌜ r ≡ lengthsOf (now (file .entry)) start nsec ⌝ }
+{
+    let mut table = [0u64; 64];
+    let mut filled = 0;
+    while filled < nsec {
+        table[filled as usize] = section_at(file, start, nsec, filled).words;
+        filled += 1;
+    }
+    table
+}
+
+fn addresses(file: &[u8], start: u64, nsec: u64) -> [EntryAddress; 64]
+    requires { ⌜ Described (length (now file)) start nsec ⌝ }
+    ensures { λ r. ⌜ r ≡ addressesOf (now (file .entry)) start nsec ⌝ }
+{
+    let mut table = [EntryAddress(0); 64];
+    let mut filled = 0;
+    while filled < nsec {
+        let section = section_at(file, start, nsec, filled);
+        let address = section.address;
+        table[filled as usize] = address;
+        filled += 1;
+    }
+    table
+}
+
+// The three tables of an entry.
+pub(crate) fn section_tables(file: &[u8], start: u64, nsec: u64) -> Sections
+    requires { ⌜ Described (length (now file)) start nsec ⌝ }
+    ensures { λ r. ⌜ r ≡ sectionsOf (now (file .entry)) start nsec ⌝ }
+{
+    Sections {
+        identifiers: identifiers(file, start, nsec),
+        lengths: lengths(file, start, nsec),
+        addresses: addresses(file, start, nsec),
+    }
+}
+
+// The first section with an identifier, counted from 0, or nsec where none has it.
+pub(crate) fn section_named(file: &[u8], start: u64, nsec: u64, identifier: i32) -> u64
+    requires { ⌜ Described (length (now file)) start nsec ⌝ }
+    ensures { λ r. ⌜ r ≡ sectionNamed (now (file .entry)) start identifier 0 nsec ⌝ }
+{
+    let mut passed = 0;
+    while passed < nsec {
+        if identifier_at(file, start, nsec, passed) == identifier {
+            return passed;
+        }
+        passed += 1;
+    }
+    nsec
+}
