@@ -1,25 +1,27 @@
 -- Laws of the index areas: one area more, what holds of fewer, and the bounds that the rules leave. Assumes nothing.
 use Prim.Native.Nat.{ℕ, zero, suc, _+_, _*_, _-_, _^_, _≤_, _<_}
-use mathlib.Core.Path.{_≡_, refl, sym, ap, _∙_}
-use mathlib.Core.Bool.{Bool, true, false, _&&_}
+use mathlib.Core.Path.{_≡_, refl}
+use mathlib.Core.Bool.{Bool, true}
 use mathlib.Core.List.{List}
 use native.Mathlib.Omega.{arith}
-use native.Mathlib.Nat.{mul-le-mul, mul-le-mul-left}
+use native.Mathlib.Nat.{mul-le-mul, mul-le-mul-left, mul-le-mul-right}
 use native.Mathlib.Numerals.{add-one}
+use borrow.Author.Tests.{leb-true}
 use mir.Syntax.{w64}
 use Rattle.words.specs.Word.{signedOf}
 use Rattle.words.specs.Range.{atLeast}
 use Rattle.words.proofs.Ranges.{atLeast-bounds}
+use Rattle.words.proofs.Runs.{Run, run-test}
 use Rattle.geometry.specs.declared.units.RecordNumber.{RecordNumber}
+use Rattle.geometry.specs.Units.{positionOf}
 use Rattle.geometry.specs.Growth.{capacityOf, Growing}
 use Rattle.geometry.specs.Area.{areaRecords}
 use Rattle.geometry.proofs.Capacities.{capacity-limit, over-fewer}
 use Rattle.geometry.proofs.Slots.{records-least}
 use Rattle.descriptor.specs.declared.numbers.DescriptorNumbers.{DescriptorNumbers}
-use Rattle.descriptor.specs.FirstRecord.{aexOf, growthIn}
-use Rattle.descriptor.specs.Rules.{areaAfter, areasStart}
-use Rattle.descriptor.specs.Bounds.{Settled}
-use Rattle.descriptor.proofs.Tests.{both}
+use Rattle.descriptor.specs.FirstRecord.{aexOf, growthIn, freeOf}
+use Rattle.descriptor.specs.Rules.{areaAfter, areasStart, areasEnd}
+use Rattle.descriptor.specs.Bounds.{Settled, Admitted}
 
 -- an area has no more records than words
 pub records-small : (capacity lind reclen : ℕ) → 1 ≤ reclen → capacity ≤ 16384 → lind ≤ 256 → areaRecords capacity lind reclen ≤ 2 ^ 22
@@ -39,34 +41,19 @@ module _ (d : DescriptorNumbers) (addresses : List RecordNumber) where
   unfolding areasStart
   starts-none = refl
 
-  pub starts-next : (k : ℕ) → areasStart d addresses (k + 1) ≡ areasStart d addresses k && atLeast (areaAfter d addresses k) (signedOf w64 (aexOf addresses (k + 1) .0))
+  -- the test of area k + 1, and the run of these tests
+  abbrev pub areaStarts : ℕ → Bool
+  areaStarts k = atLeast (areaAfter d addresses k) (signedOf w64 (aexOf addresses (k + 1) .0))
+
+  pub starts-run : Run (areasStart d addresses) areaStarts
   unfolding areasStart
-  starts-next k = rw add-one
-
-  starts-less : (k m : ℕ) → areasStart d addresses (k + m) ≡ true → areasStart d addresses k ≡ true
-  starts-less k zero e = let q : k + 0 ≡ k = omega arith in (rw q at e)
-  starts-less k (suc m) e =
-      let q : k + suc m ≡ k + m + 1 = omega arith in
-      starts-less k m (both (areasStart d addresses (k + m)) _ (sym (starts-next (k + m)) ∙ ap (areasStart d addresses) (sym q) ∙ e) .0)
-
-  -- where the first n areas keep their order, fewer do
-  pub starts-fewer : (k n : ℕ) → k ≤ n → areasStart d addresses n ≡ true → areasStart d addresses k ≡ true
-  starts-fewer k n h e = let q : k + (n - k) ≡ n = omega arith in starts-less k (n - k) (ap (areasStart d addresses) q ∙ e)
-
-  -- where they do not, more do not
-  pub starts-broken : (k n : ℕ) → k ≤ n → areasStart d addresses k ≡ false → areasStart d addresses n ≡ false
-  starts-broken k n h e = by (areasStart d addresses n) refl
-    where
-      by : (b : Bool) → areasStart d addresses n ≡ b → areasStart d addresses n ≡ false
-      by true q = q ∙ sym (starts-fewer k n h q) ∙ e
-      by false q = q
+  starts-run = record { next = λ k. rw add-one }
 
   -- an area in order starts where the one before it ends or later, at a record that is no negative number
   pub area-low : (k n : ℕ) → k < n → areasStart d addresses n ≡ true
       → (areaAfter d addresses k ≤ aexOf addresses (k + 1) .0) × (aexOf addresses (k + 1) .0 < 2 ^ 63)
   area-low k n h e =
-      atLeast-bounds w64 (areaAfter d addresses k) (aexOf addresses (k + 1) .0)
-      (both (areasStart d addresses k) _ (sym (starts-next k) ∙ starts-fewer (k + 1) n (omega arith) e) .1)
+      atLeast-bounds w64 (areaAfter d addresses k) (aexOf addresses (k + 1) .0) (run-test starts-run k n h e)
 
   -- the record after some areas in order is 2 or later
   pub after-low : (k n : ℕ) → k ≤ n → areasStart d addresses n ≡ true → 2 ≤ areaAfter d addresses k
@@ -88,3 +75,52 @@ growing d k s h = record {
   gex-high = s .gex-high;
   within = over-fewer (growthIn d) k (d .nex) h (s .within);
 }
+
+-- ---- where the areas of an admitted file end
+
+module _ (bytes : ℕ) (d : DescriptorNumbers) (addresses : List RecordNumber) (a : Admitted bytes d addresses) where
+  after-plus : (k m : ℕ) → k + m ≤ d .nex → areaAfter d addresses k ≤ areaAfter d addresses (k + m)
+  after-plus k zero h = let q : k + 0 ≡ k = omega arith in rw q (omega arith)
+  after-plus k (suc m) h =
+      let q : k + suc m ≡ k + m + 1 = omega arith in
+      rw q (omega (arith, after-plus k m (omega arith), after-next d addresses (k + m), area-low d addresses (k + m) (d .nex) (omega arith) (a .started) .0))
+
+  pub after-le : (k n : ℕ) → k ≤ n → n ≤ d .nex → areaAfter d addresses k ≤ areaAfter d addresses n
+  after-le k n h l = let q : k + (n - k) ≡ n = omega arith in (rw q at (after-plus k (n - k) (omega arith)))
+
+  -- each area ends at or before the next free position
+  pub area-ends : (k : ℕ) → k ≤ d .nex → (areaAfter d addresses k - 1) * d .reclen ≤ freeOf d
+  unfolding areasEnd positionOf
+  area-ends k h =
+      let last = leb-true ((areaAfter d addresses (d .nex) - 1) * d .reclen + (1 - 1)) (freeOf d) (a .ended) in
+      let less : areaAfter d addresses k - 1 ≤ areaAfter d addresses (d .nex) - 1 = omega (arith, after-le k (d .nex) h (omega arith)) in
+      omega (arith, mul-le-mul-right (d .reclen) less)
+
+  -- an area from its first word to its last
+  pub area-words : (k : ℕ) → 1 ≤ k → k ≤ d .nex
+      → positionOf (d .reclen) (aexOf addresses k) (record { 0 = 1 }) + areaRecords (capacityOf (growthIn d) k) (d .lind) (d .reclen) * d .reclen
+      ≡ (areaAfter d addresses k - 1) * d .reclen
+  unfolding positionOf
+  area-words k h l =
+      let q : k - 1 + 1 ≡ k = omega arith in
+      let next = rw q at (after-next d addresses (k - 1)) in
+      let low = rw q at (area-low d addresses (k - 1) (d .nex) (omega arith) (a .started)) in
+      let two = after-low d addresses (k - 1) (d .nex) (omega arith) (a .started) in
+      rw next (by (aexOf addresses k .0) (areaRecords (capacityOf (growthIn d) k) (d .lind) (d .reclen)) (d .reclen) (omega arith))
+    where
+      by : (x r n : ℕ) → 1 ≤ x → (x - 1) * n + (1 - 1) + r * n ≡ (x + r - 1) * n
+      by zero r n m = absurd (omega arith)
+      by (suc x) r n m =
+          let p : suc x - 1 ≡ x = omega arith in
+          let t : suc x + r - 1 ≡ x + r = omega arith in
+          rw (p, t) (omega arith)
+
+  -- its first record
+  pub area-first : (k : ℕ) → 1 ≤ k → k ≤ d .nex → (2 ≤ aexOf addresses k .0) × (aexOf addresses k .0 ≤ 2 ^ 32)
+  area-first k h l =
+      let q : k - 1 + 1 ≡ k = omega arith in
+      let next = rw q at (after-next d addresses (k - 1)) in
+      let low = rw q at (area-low d addresses (k - 1) (d .nex) (omega arith) (a .started)) in
+      let two = after-low d addresses (k - 1) (d .nex) (omega arith) (a .started) in
+      let some : 1 ≤ d .reclen = omega (arith, a .settled .reclen-low) in
+      (omega arith, omega (arith, area-ends k l, a .room, a .lent .high, mul-le-mul-left (areaAfter d addresses k - 1) some))

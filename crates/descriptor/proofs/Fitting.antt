@@ -1,7 +1,7 @@
 -- Laws of how many entries fit the extensions in use. Assumes nothing.
 use Prim.Native.Nat.{ℕ, zero, suc, _-_, _≤_, _<_}
 use mathlib.Core.Path.{_≡_, refl, ap}
-use mathlib.Core.Bool.{true, _&&_}
+use mathlib.Core.Bool.{true, _&&_, and-eq-true-iff}
 use native.Mathlib.Omega.{arith}
 use borrow.Author.Tests.{leb-true, ltb-true, eqb-true}
 use lib.Dec.{leb, ltb, eqb}
@@ -9,7 +9,6 @@ use Rattle.geometry.specs.declared.growth.Growth.{Growth}
 use Rattle.geometry.specs.Growth.{totalOf}
 use Rattle.geometry.proofs.Capacities.{total-none}
 use Rattle.descriptor.specs.Rules.{entriesFit}
-use Rattle.descriptor.proofs.Tests.{both}
 
 module _ (g : Growth) (n : ℕ) where
   pub fit-none : entriesFit g 0 n ≡ eqb n 0
@@ -24,8 +23,8 @@ module _ (g : Growth) (n : ℕ) where
   -- the extensions in use reach all entries
   pub fit-reach : (k : ℕ) → entriesFit g k n ≡ true → n ≤ totalOf g k
   fit-reach zero e = omega (arith, eqb-true n 0 (rw fit-none at e), total-none g)
-  fit-reach (suc k) e = leb-true n (totalOf g (suc k)) (both (leb n (totalOf g (suc k))) _ (rw (fit-some (suc k) (omega arith)) at e) .0)
+  fit-reach (suc k) e = leb-true n (totalOf g (suc k)) (and-eq-true-iff (leb n (totalOf g (suc k))) _ .0 (rw (fit-some (suc k) (omega arith)) at e) .0)
 
   -- and one extension fewer would not
   pub fit-full : (k : ℕ) → 1 ≤ k → entriesFit g k n ≡ true → totalOf g (k - 1) < n
-  fit-full k h e = ltb-true (totalOf g (k - 1)) n (both (leb n (totalOf g k)) _ (rw (fit-some k h) at e) .1)
+  fit-full k h e = ltb-true (totalOf g (k - 1)) n (and-eq-true-iff (leb n (totalOf g k)) _ .0 (rw (fit-some k h) at e) .1)

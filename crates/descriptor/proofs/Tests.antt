@@ -1,7 +1,6 @@
 -- From the way that a branch took to whether a rule holds. A call's result r is what its contract says, e. Assumes nothing.
-use mathlib.Core.Path.{_≡_, refl, sym, ap, _∙_, subst}
-use mathlib.Core.Bool.{Bool, true, false, not, _&&_}
-use lib.Dec.{T}
+use mathlib.Core.Path.{_≡_, refl, sym, _∙_}
+use mathlib.Core.Bool.{Bool, true, false, not}
 
 -- `if !f(..)` was left, or taken
 pub holds : {r e : Bool} → r ≡ e → not r ≡ false → e ≡ true
@@ -17,8 +16,3 @@ broken {r} {e} p q = sym p ∙ by r q
     by : (r : Bool) → not r ≡ true → r ≡ false
     by true q = sym q
     by false q = refl
-
--- both of two hold
-pub both : (a b : Bool) → a && b ≡ true → (a ≡ true) × (b ≡ true)
-both true b e = (refl, e)
-both false b e = absurd (subst T (sym e) tt)

@@ -2,7 +2,6 @@
 use Prim.Native.Nat.{ℕ, zero, suc, _+_}
 use mathlib.Core.Bool.{Bool, cond, _&&_}
 use mathlib.Core.List.{List}
-use lib.Dec.{leb}
 use lib.IntN.{ℤ, pos}
 use lib.Signed.{leZ}
 use Rattle.words.specs.Table.{places}

@@ -1,6 +1,5 @@
 // The tables of an opened entry, and the section that an identifier names.
 use super::contents::section_at;
-use super::contents::word4_at;
 use geometry::EntryAddress;
 use geometry::byte_offset;
 use geometry::entry_position;

@@ -5,3 +5,4 @@ pub mod Ranges
 pub mod Access
 pub mod Codes
 pub mod Table
+pub mod Runs

@@ -1,7 +1,7 @@
 -- A test on a signed reading is a test on the bits without a sign: a negative value's bits are above every bound. Assumes nothing.
 use Prim.Native.Nat.{ℕ, _^_, _≤_, _<_}
 use mathlib.Core.Path.{_≡_, refl, sym, ap, _∙_, subst}
-use mathlib.Core.Bool.{Bool, true, false, _&&_}
+use mathlib.Core.Bool.{Bool, true, false, _&&_, and-eq-true-iff}
 use native.Mathlib.Omega.{arith}
 use borrow.Author.Tests.{lt-leb, leb-true, ltb-true, ltb-false}
 use lib.Dec.{T, ltb, leb}
@@ -51,16 +51,12 @@ atLeast-bits w low u = by (ltb u (2 ^ hbits w)) refl
     by false e = rw e (sym (and-false (leb low u)))
 
 -- what holds of the bits where a test passed
-and-both : (a b : Bool) → a && b ≡ true → (a ≡ true) × (b ≡ true)
-and-both true b e = (refl, e)
-and-both false b e = absurd (subst T (sym e) tt)
-
 pub within-bounds : (w : Width) (low high u : ℕ) → high < 2 ^ hbits w → within low high (signedOf w u) ≡ true → (low ≤ u) × (u ≤ high)
 within-bounds w low high u h t =
-    let both = and-both (leb low u) (leb u high) (sym (within-bits w low high u h) ∙ t) in
+    let both = and-eq-true-iff (leb low u) (leb u high) .0 (sym (within-bits w low high u h) ∙ t) in
     (leb-true low u (both .0), leb-true u high (both .1))
 
 pub atLeast-bounds : (w : Width) (low u : ℕ) → atLeast low (signedOf w u) ≡ true → (low ≤ u) × (u < 2 ^ hbits w)
 atLeast-bounds w low u t =
-    let both = and-both (leb low u) (ltb u (2 ^ hbits w)) (sym (atLeast-bits w low u) ∙ t) in
+    let both = and-eq-true-iff (leb low u) (ltb u (2 ^ hbits w)) .0 (sym (atLeast-bits w low u) ∙ t) in
     (leb-true low u (both .0), ltb-true u (2 ^ hbits w) (both .1))

@@ -1,20 +1,21 @@
 -- `descriptor::areas::areas_start` meets its contract. The loop's invariant: `after` is the record after the areas passed, which keep their order. Assumes nothing.
 use mathlib.Core.Path.{_≡_, refl, sym, ap, _∙_}
 use Prim.Native.Nat.{_-_, _+_, _^_, _≤_, _<_}
-use mathlib.Core.Bool.{true, _&&_}
+use mathlib.Core.Bool.{true}
 use native.Mathlib.Omega.{arith}
 use borrow.Author.Needs.{needs}
 use mir.Syntax.{w64}
 use Rattle.words.specs.Word.{signedOf}
 use Rattle.words.specs.Range.{atLeast}
 use Rattle.words.proofs.Ranges.{atLeast-bounds}
+use Rattle.words.proofs.Runs.{run-next, run-failed}
 use Rattle.geometry.specs.declared.units.RecordNumber.{RecordNumber}
 use Rattle.geometry.specs.Growth.{capacityOf}
 use Rattle.geometry.proofs.Capacities.{capacity-limit}
 use Rattle.descriptor.specs.FirstRecord.{growthIn, aexOf}
 use Rattle.descriptor.specs.Rules.{areaAfter, areasStart}
 use Rattle.descriptor.proofs.Tests.{holds, broken}
-use Rattle.descriptor.proofs.AreaOrder.{after-none, after-next, starts-none, starts-next, starts-broken, area-small, growing}
+use Rattle.descriptor.proofs.AreaOrder.{after-none, after-next, starts-none, starts-run, area-small, growing}
 use Rattle.descriptor.proofs.areas.areas_start.Statement.{statement}
 use Rattle.descriptor.proofs.areas.areas_start.Tie as tie
 
@@ -54,8 +55,7 @@ returns : tie.Need-returns Inv-loop μ-loop
 returns c =
     let s = c .before .before .before .before .before .before .before in
     let k = c .before .before .before .before .before .loop .passed in
-    sym (starts-broken (s .args .d) (s .args .addresses) (k + 1) (s .args .d .nex) (omega arith)
-    (starts-next (s .args .d) (s .args .addresses) k ∙ rw (c .before .before .before .before .before .loop .inv .2, broken (test (c .before)) (c .if2 .taken))))
+    sym (run-failed (starts-run (s .args .d) (s .args .addresses)) k (s .args .d .nex) (omega arith) (broken (test (c .before)) (c .if2 .taken)))
 
 capacity-requires : tie.Need-capacity-requires Inv-loop μ-loop
 capacity-requires c κs =
@@ -95,8 +95,8 @@ loop-again c =
     let l = c .before .before .before .before .before .before .before .before .loop in (
       omega arith,
       rw (c .before .before .before .before .before .aex .ensures, rw (own (c .before .before)) at (c .before .area-records .ensures)) (sym (after-next (s .args .d) (s .args .addresses) (l .passed))),
-      starts-next (s .args .d) (s .args .addresses) (l .passed)
-          ∙ rw (l .inv .2, holds (test (c .before .before .before .before)) (c .before .before .before .if2 .left)),
+      run-next (starts-run (s .args .d) (s .args .addresses)) (l .passed) (l .inv .2)
+          ∙ holds (test (c .before .before .before .before)) (c .before .before .before .if2 .left),
     )
 
 returns-2 : tie.Need-returns-2 Inv-loop μ-loop

@@ -1,0 +1,4 @@
+-- The laws of `entry` that later layers cite.
+pub mod Pieces
+pub mod SectionTables
+pub mod Entering

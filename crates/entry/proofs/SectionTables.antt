@@ -1,0 +1,89 @@
+-- Laws of the three tables and of the section that an identifier names. Assumes nothing.
+use mathlib.Core.Path.{_≡_, refl, sym, ap}
+use mathlib.Core.Bool.{Bool, true, false, and-eq-true-iff}
+use mathlib.Core.List.{List}
+use Prim.Native.Nat.{ℕ, zero, suc, _+_, _-_, _≤_, _<_}
+use native.Mathlib.Omega.{arith}
+use borrow.Author.Count.{below-more, below-none}
+use borrow.Author.Tests.{leb-true, le-leb}
+use lib.Dec.{leb}
+use lib.IntN.{ℤ, pos, negsuc, ℤ-discrete}
+use lib.ListN.{length, getD}
+use Rattle.words.specs.Table.{places}
+use Rattle.words.proofs.Table.{length-places}
+use Rattle.entry.specs.EntryDescriptor.{identifierAt}
+use Rattle.entry.specs.Tables.{identifiersOf, lengthsOf, addressesOf, sameInteger, sectionNamed}
+
+-- each table has 64 places
+module _ (file : List ℕ) (start nsec : ℕ) where
+  pub length-identifiers : length (identifiersOf file start nsec) ≡ 64
+  unfolding identifiersOf
+  length-identifiers = length-places 64 nsec _ _
+
+  pub length-lengths : length (lengthsOf file start nsec) ≡ 64
+  unfolding lengthsOf
+  length-lengths = length-places 64 nsec _ _
+
+  pub length-addresses : length (addressesOf file start nsec) ≡ 64
+  unfolding addressesOf
+  length-addresses = length-places 64 nsec _ _
+
+equal : (a b : ℕ) → sameInteger (pos a) (pos b) ≡ true → a ≡ b
+unfolding sameInteger
+equal a b e =
+    let both = and-eq-true-iff (leb a b) (leb b a) .0 e in
+    omega (arith, leb-true a b (both .0), leb-true b a (both .1))
+
+-- the test of two integers passes where they are equal, and nowhere else
+pub same-true : (x y : ℤ) → sameInteger x y ≡ true → x ≡ y
+unfolding sameInteger
+same-true (pos a) (pos b) e = ap pos (equal a b e)
+same-true (pos a) (negsuc b) e = cc
+same-true (negsuc a) (pos b) e = cc
+same-true (negsuc a) (negsuc b) e = ap negsuc (sym (equal b a e))
+
+same-self : (x : ℤ) → sameInteger x x ≡ true
+unfolding sameInteger
+same-self (pos a) = rw (le-leb a a (omega arith))
+same-self (negsuc a) = rw (le-leb a a (omega arith))
+
+pub same-equal : (x y : ℤ) → x ≡ y → sameInteger x y ≡ true
+same-equal x y e = rw e (same-self y)
+
+pub same-other : (x y : ℤ) → (x ≡ y → ⊥) → sameInteger x y ≡ false
+same-other x y d = by (sameInteger x y) refl
+  where
+    by : (b : Bool) → sameInteger x y ≡ b → sameInteger x y ≡ false
+    by true e = absurd (d (same-true x y e))
+    by false e = e
+
+-- the section found, r: nsec where none has the identifier, and else the first that has it
+pub record Named (file : List ℕ) (start nsec : ℕ) (identifier : ℤ) (r : ℕ) : Type 0 where
+  pub limit : r ≤ nsec
+  pub found : r < nsec → identifierAt file start r ≡ identifier
+  pub first : (k : ℕ) → k < r → identifierAt file start k ≡ identifier → ⊥
+
+module _ (file : List ℕ) (start nsec : ℕ) (identifier : ℤ) where
+  named-from : (i left : ℕ) → i + left ≡ nsec → ((k : ℕ) → k < i → identifierAt file start k ≡ identifier → ⊥)
+      → Named file start nsec identifier (sectionNamed file start identifier i left)
+  unfolding sectionNamed
+  named-from i zero e none = record { limit = omega arith; found = λ h. absurd (omega arith); first = none }
+  named-from i (suc left) e none =
+      elim (ℤ-discrete (identifierAt file start i) identifier) [
+        | yes q ↦ rw (same-equal _ _ q) (record { limit = omega arith; found = λ h. q; first = none })
+        | no d ↦ rw (same-other _ _ d) (named-from (i + 1) left (omega arith) (below-more _ i none d))
+      ]
+
+  -- what the search over all sections finds
+  pub named : Named file start nsec identifier (sectionNamed file start identifier 0 nsec)
+  named = named-from 0 nsec (omega arith) (below-none _)
+
+  -- the search from section i on ends there, or goes on with the next
+  pub named-here : (i : ℕ) → i < nsec → identifierAt file start i ≡ identifier → sectionNamed file start identifier i (nsec - i) ≡ i
+  unfolding sectionNamed
+  named-here i h e = let q : nsec - i ≡ suc (nsec - (i + 1)) = omega arith in rw (q, same-equal _ _ e)
+
+  pub named-later : (i : ℕ) → i < nsec → (identifierAt file start i ≡ identifier → ⊥)
+      → sectionNamed file start identifier i (nsec - i) ≡ sectionNamed file start identifier (i + 1) (nsec - (i + 1))
+  unfolding sectionNamed
+  named-later i h d = let q : nsec - i ≡ suc (nsec - (i + 1)) = omega arith in rw (q, same-other _ _ d)
