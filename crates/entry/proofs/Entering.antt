@@ -104,6 +104,18 @@ afterStart file d e place = headRules file d (startOf d place) e ++ contents fil
 abbrev afterNumber : List ℕ → DescriptorNumbers → EntryNumber → Place → List Rule
 afterNumber file d e place = startRules d place ++ afterStart file d e place
 
+-- what the rules up to 16 leave, before the contents are looked at
+pub head-bounds : (file : List ℕ) (d : DescriptorNumbers) (addresses : List RecordNumber) (start : ℕ) (e : EntryNumber) → Admitted (length file) d addresses → start + 11 ≤ freeOf d
+    → AllHold (headRules file d start e) → Described (length file) start (nsecOf file start) × (11 + 5 * nsecOf file start ≤ nwordOf file start)
+    × (nwordOf file start < 2 ^ 32) × (start + nwordOf file start ≤ freeOf d)
+head-bounds file d addresses start e a begin h =
+    let nsec = within-bounds w32 0 64 (nsecOf file start) (omega arith) (h .1 .0) in
+    let nword = atLeast-bounds w64 (11 + 5 * nsecOf file start) (nwordOf file start) (h .1 .1 .0) in
+    let ends = leb-true (start + nwordOf file start) (freeOf d) (h .1 .1 .1 .0) in
+    let inside = free-within (length file) d addresses a in
+    let small : freeOf d ≤ 2 ^ 28 = omega (arith, a .lent .high) in
+    (record { sections = nsec .1; lent = a .lent .high; within = omega arith }, nword .0, omega arith, ends)
+
 -- an entry whose rules all hold opens
 pub opens : (file : List ℕ) (d : DescriptorNumbers) (addresses : List RecordNumber) (e : EntryNumber) (place : Place) → Admitted (length file) d addresses
     → AllHold (entryRules file d e place) → Opens file d e place
@@ -114,9 +126,7 @@ opens file d addresses e place a h =
     let rest = hold-split (headRules file d start e) (contents file d place) (begin .1) in
     let small : freeOf d ≤ 2 ^ 28 = omega (arith, a .room, a .lent .high) in
     let bounds = start-bounds d place (a .settled) small (begin .0) in
-    let nsec = within-bounds w32 0 64 (nsecOf file start) (omega arith) (rest .0 .1 .0) in
-    let nword = atLeast-bounds w64 (11 + 5 * nsecOf file start) (nwordOf file start) (rest .0 .1 .1 .0) in
-    let ends = leb-true (start + nwordOf file start) (freeOf d) (rest .0 .1 .1 .1 .0) in
+    let head = head-bounds file d addresses start e a (bounds .4) (rest .0) in
     record {
       number-low = leb-true 1 (e .0) (number .0 .0);
       number-high = leb-true (e .0) (entriesBefore (d .xnext)) (number .0 .1 .0);
@@ -125,10 +135,10 @@ opens file d addresses e place a h =
       word-low = bounds .2;
       word-high = bounds .3;
       code = rest .0 .0;
-      described = record { sections = nsec .1; lent = a .lent .high; within = omega (arith, free-within (length file) d addresses a) };
-      nword-low = nword .0;
-      nword-small = omega arith;
-      ends = ends;
+      described = head .0;
+      nword-low = head .1;
+      nword-small = head .2;
+      ends = head .3;
       xnum = eqb-true (xnumOf file start) (e .0) (rest .0 .1 .1 .1 .1 .0);
       ldata-small = atLeast-bounds w64 0 (dataOf file start .words) (rest .1 .0) .1;
       data-within = rest .1 .1 .0;
@@ -168,14 +178,37 @@ module _ (file : List ℕ) (d : DescriptorNumbers) (addresses : List RecordNumbe
   unfolding entryRefusal
   entry-number h = refusal-append (numberRules d e) (afterNumber file d e here) (omega arith) ∙ rw h
 
-  pub entry-rest : refusalIn (numberRules d e) ≡ 0
+  rest : refusalIn (numberRules d e) ≡ 0
       → let start = startOf d here in
       let content = contentRefusal file start (nsecOf file start) (nwordOf file start) (dataOf file start) in
       entryRefusal file d addresses e
       ≡ cond (eqb (startRefusal d here) 0) (cond (eqb (headRefusal file d start e) 0) content (headRefusal file d start e)) (startRefusal d here)
   unfolding entryRefusal startRefusal headRefusal contentRefusal
-  entry-rest h =
+  rest h =
       refusal-append (numberRules d e) (afterNumber file d e here) (omega arith) ∙ rw h
       (refusal-append (startRules d here) (afterStart file d e here) (omega arith)
       ∙ ap (λ (n : ℕ). cond (eqb (refusalIn (startRules d here)) 0) n (refusalIn (startRules d here)))
       (refusal-append (headRules file d (startOf d here) e) (contents file d here) (omega arith)))
+
+  module _ (number : refusalIn (numberRules d e) ≡ 0) (place : Place) (is : place ≡ here) where
+    abbrev start : ℕ
+    start = startOf d place
+
+    pub entry-start : (n : ℕ) → startRefusal d place ≡ n → eqb n 0 ≡ false → entryRefusal file d addresses e ≡ n
+    entry-start n z h = rest number ∙ rw (← is, z, h)
+
+    pub entry-head : (n : ℕ) → startRefusal d place ≡ 0 → headRefusal file d start e ≡ n → eqb n 0 ≡ false → entryRefusal file d addresses e ≡ n
+    entry-head n s z h = rest number ∙ rw (← is, s, z, h)
+
+    pub entry-content : (n : ℕ) → startRefusal d place ≡ 0 → headRefusal file d start e ≡ 0
+        → contentRefusal file start (nsecOf file start) (nwordOf file start) (dataOf file start) ≡ n → entryRefusal file d addresses e ≡ n
+    entry-content n s t z = rest number ∙ rw (← is, s, t, z)
+
+-- the parts' rows hold one by one
+pub start-rows : (d : DescriptorNumbers) (place : Place) → startRefusal d place ≡ 0 → AllHold (startRules d place)
+unfolding startRefusal
+start-rows d place z = all-hold (startRules d place) (omega arith) z
+
+pub head-rows : (file : List ℕ) (d : DescriptorNumbers) (start : ℕ) (e : EntryNumber) → headRefusal file d start e ≡ 0 → AllHold (headRules file d start e)
+unfolding headRefusal
+head-rows file d start e z = all-hold (headRules file d start e) (omega arith) z

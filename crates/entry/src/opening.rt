@@ -70,7 +70,7 @@ pub(crate) fn place_stored(file: &[u8], slot: u64) -> Place
 
 // Rule 13, where an entry starts: 0 or 13.
 pub(crate) fn start_refusal(d: DescriptorNumbers, place: Place) -> u32
-    requires { ⌜ Settled d × Free d ⌝ }
+    requires { ⌜ Settled d × Free d × (freeOf d ≤ 2 ^ 28) ⌝ }
     ensures { λ r. ⌜ r ≡ startRefusal d place ⌝ }
 {
     if !words::at_least8(place.record.0, 2) {

@@ -1,36 +1,66 @@
+-- `entry::inner::slot_position` meets its contract. Assumes nothing.
+use Prim.Native.Nat.{_+_, _*_, _≤_}
+use mathlib.Core.Path.{_≡_, sym, ap, _∙_}
+use native.Mathlib.Omega.{arith}
+use Rattle.geometry.specs.Units.{entriesBefore}
+use Rattle.geometry.specs.Area.{slotOf}
+use Rattle.geometry.proofs.Slots.{Stands}
+use Rattle.descriptor.specs.FirstRecord.{growthIn}
+use Rattle.descriptor.proofs.Fitting.{fit-reach}
+use Rattle.descriptor.proofs.AreaOrder.{growing, area-first}
+use Rattle.entry.specs.Opening.{slotPositionOf}
+use Rattle.entry.proofs.Entering.{slot-in-use, slot-inside}
 use borrow.Author.Needs.{needs}
 use Rattle.entry.proofs.inner.slot_position.Statement.{statement}
 use Rattle.entry.proofs.inner.slot_position.Tie as tie
-use Rattle.entry.proofs.inner.slot_position.Reads as reads
-use Rattle.entry.proofs.inner.slot_position.Lts as lts
-use Rattle.descriptor.proofs.inner.aex.Reads as aex-reads
-use Rattle.geometry.proofs.slot_of.Reads as slot-of-reads
-use Rattle.geometry.proofs.growth.Growth.new.Reads as new-reads
-use Rattle.geometry.proofs.position.Reads as position-reads
 
--- src/inner.rt:44:24
+-- the slot that the code finds stands in an area in use, and what the code adds is its position
+found : (c : tie.After-slot-of) → let s = c .before .before in c .slot-of .result ≡ slotOf (growthIn (s .args .d)) (s .args .d .nex) (s .args .d .lind) (s .args .number)
+found c = rw (c .before .new .ensures) at (c .slot-of .ensures)
+
+stands : (c : tie.After-slot-of) → let s = c .before .before in Stands (growthIn (s .args .d)) (s .args .d .nex) (s .args .d .lind) (s .args .number .0) (c .slot-of .result)
+stands c = let s = c .before .before in rw (found c) (slot-in-use (s .args .bytes) (s .args .d) (s .args .addresses) (s .pre .0) (s .args .number) (s .pre .1) (s .pre .2))
+
+sum : (c : tie.After-struct-known) → let s = c .before .before .before .before .before in
+    c .before .position .result + c .before .before .before .slot-of .result .offset ≡ slotPositionOf (s .args .d) (s .args .addresses) (s .args .number)
+unfolding slotPositionOf
+sum c = rw (c .before .position .ensures, c .before .before .aex .ensures, found (c .before .before .before))
+
 new-requires : tie.Need-new-requires
 new-requires c κs = search needs
 
--- src/inner.rt:44:9
 slot-of-requires : tie.Need-slot-of-requires
-slot-of-requires c κs = ?
+slot-of-requires c κs =
+    let s = c .before in
+    let d = s .args .d in
+    let a = s .pre .0 in (
+      a .settled .nex-high,
+      rw (c .new .ensures) (growing d (d .nex) (a .settled) (omega arith)),
+      a .settled .lind-high,
+      s .pre .1,
+      rw (c .new .ensures) (omega (arith, s .pre .2, fit-reach (growthIn d) (entriesBefore (d .xnext)) (d .nex) (a .fit))),
+    )
 
--- src/inner.rt:45:9
 aex-requires : tie.Need-aex-requires
-aex-requires c κs = ?
+aex-requires c κs =
+    let s = c .before .before in
+    let u = stands c in
+    (u .held .counted, omega (arith, u .used, s .pre .0 .settled .nex-high))
 
--- src/inner.rt:46:5
 position-requires : tie.Need-position-requires
-position-requires c κs = ?
+position-requires c κs =
+    let s = c .before .before .before in
+    let u = stands (c .before) in
+    let first = area-first (s .args .bytes) (s .args .d) (s .args .addresses) (s .pre .0) (c .before .slot-of .result .extension .0) (u .held .counted) (u .used) in
+    rw (c .aex .ensures) (omega (arith, first .0), first .1, omega arith, omega arith, s .pre .0 .settled .reclen-high)
 
--- src/inner.rt:46:5
 add-result : tie.Need-add-result
-add-result c = ?
+add-result c =
+    let s = c .before .before .before .before .before in
+    omega (arith, sum c, slot-inside (s .args .bytes) (s .args .d) (s .args .addresses) (s .pre .0) (s .args .number) (s .pre .1) (s .pre .2), s .pre .0 .room, s .pre .0 .lent .high)
 
--- src/inner.rt:35:1
 returns : tie.Need-returns
-returns c = ?
+returns c = sum c
 
 pub slot-position-spec : {M : Type 1} → statement M
 slot-position-spec =

@@ -1,0 +1,2 @@
+-- What the contracts of `order` cite.
+pub mod Order

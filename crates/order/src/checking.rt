@@ -1,0 +1,31 @@
+// The order check of a file.
+use super::inner::check_entries;
+use descriptor::Validated;
+use descriptor::refusal_of;
+use descriptor::validate;
+use geometry::EntryNumber;
+ghost use mathlib.Core.Path.{_≡_};
+ghost use Rattle.order.specs.Order.{checkOf};
+
+// The answer of the check: the first entry that fails with its refusal, 0 and 0 where all pass, and
+// entry 0 with the number where the descriptor is refused.
+pub struct Checked {
+    pub entry: EntryNumber,
+    pub refusal: u32,
+}
+
+// Checks that all entries open and stand in the order of appends.
+pub fn check_order(file: &[u8]) -> Checked
+    ensures { λ r. ⌜ r ≡ checkOf (now (file .entry)) ⌝ }
+{
+    let validation = validate(file);
+    let case = validation.numbers;
+    let Validated::Numbers(d) = case else {
+        return Checked {
+            entry: EntryNumber(0),
+            refusal: refusal_of(case),
+        };
+    };
+    let addresses = validation.addresses;
+    check_entries(file, d, addresses)
+}

@@ -1,0 +1,57 @@
+// The check over the entries of validated numbers.
+use super::checking::Checked;
+use super::rule::ends_in_order;
+use super::rule::starts_in_order;
+use descriptor::DescriptorNumbers;
+use entry::inner::enter;
+use geometry::EntryNumber;
+use geometry::Growth;
+use geometry::RecordNumber;
+use geometry::entries_before;
+use geometry::slot_of;
+ghost use mathlib.Core.Path.{_≡_};
+ghost use lib.ListN.{length};
+ghost use Rattle.descriptor.specs.Bounds.{Admitted};
+ghost use Rattle.order.specs.Order.{checkedAll};
+
+// The first entry that fails, with its refusal, or 0 and 0.
+pub fn check_entries(file: &[u8], d: DescriptorNumbers, addresses: [RecordNumber; 16]) -> Checked
+    requires { ⌜ Admitted (length (now file)) d addresses ⌝ }
+    ensures { λ r. ⌜ r ≡ checkedAll (now (file .entry)) d addresses ⌝ }
+{
+    let bytes = file.len() as u64;
+    let growth = Growth::new(d.lex1, d.gex);
+    let entries = entries_before(d.xnext);
+    let mut passed = 0;
+    let mut before = 0;
+    while passed < entries {
+        let number = EntryNumber(passed + 1);
+        let entered = enter(file, d, addresses, number);
+        if entered.refusal != 0 {
+            return Checked {
+                entry: number,
+                refusal: entered.refusal,
+            };
+        }
+        let slot = slot_of(growth, d.nex, d.lind, number);
+        if !starts_in_order(bytes, d, addresses, slot, before, entered.start) {
+            return Checked {
+                entry: number,
+                refusal: 25,
+            };
+        }
+        let end = entered.start + entered.nword;
+        if !ends_in_order(bytes, d, addresses, slot, end) {
+            return Checked {
+                entry: number,
+                refusal: 25,
+            };
+        }
+        before = end;
+        passed += 1;
+    }
+    Checked {
+        entry: EntryNumber(0),
+        refusal: 0,
+    }
+}
