@@ -10,9 +10,22 @@ use geometry::table_index;
 ghost use mathlib.Core.Path.{_≡_};
 ghost use mathlib.Core.Bool.{true};
 ghost use Prim.Native.Nat.{_≤_};
-ghost use Rattle.descriptor.specs.FirstRecord.{aexOf, freeOf};
+ghost use Rattle.descriptor.specs.FirstRecord.{mexOf, aexOf, freeOf};
 ghost use Rattle.descriptor.specs.Rules.{areaAfter, areasStart};
 ghost use Rattle.descriptor.specs.Bounds.{Settled, Free};
+
+// The most extensions that a first record has room for.
+pub fn mex(reclen: u64) -> u64
+    requires { ⌜ 16 ≤ reclen ⌝ }
+    ensures { λ r. ⌜ r ≡ mexOf reclen ⌝ }
+{
+    let room = (reclen - 14) / 2;
+    if room <= Growth::EXTENSIONS_MAX {
+        room
+    } else {
+        Growth::EXTENSIONS_MAX
+    }
+}
 
 // The first record of an extension's index area.
 pub fn aex(addresses: [RecordNumber; 16], extension: ExtensionNumber) -> RecordNumber

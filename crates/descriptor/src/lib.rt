@@ -14,6 +14,7 @@ pub use extensions::Extension;
 pub use extensions::extension_of;
 pub use numbers::DescriptorNumbers;
 pub use numbers::Settings;
+pub use rules::setting_refusal;
 pub use validating::Validated;
 pub use validating::Validation;
 pub use validating::refusal_of;

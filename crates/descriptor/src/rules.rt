@@ -1,6 +1,7 @@
 // The rules of a first record, tested in the order of their table.
 use super::areas::areas_end;
 use super::areas::areas_start;
+use super::inner::mex;
 use super::numbers::DescriptorNumbers;
 use geometry::Growth;
 use geometry::RecordNumber;
@@ -11,11 +12,11 @@ use geometry::first_record_offset;
 use geometry::position_within;
 use geometry::total;
 ghost use mathlib.Core.Path.{_≡_};
-ghost use Prim.Native.Nat.{_-_, _^_, _≤_};
+ghost use Prim.Native.Nat.{_≤_};
 ghost use lib.ListN.{length};
 ghost use Rattle.words.specs.Code.{sameBytes};
 ghost use Rattle.geometry.specs.Growth.{Growing};
-ghost use Rattle.descriptor.specs.FirstRecord.{codeOf, fileCode, mexOf};
+ghost use Rattle.descriptor.specs.FirstRecord.{codeOf, fileCode};
 ghost use Rattle.descriptor.specs.Rules.{entriesFit, settingRefusal, fillingRefusal};
 ghost use Rattle.descriptor.specs.Bounds.{Settled, Lent};
 
@@ -34,21 +35,8 @@ pub(crate) fn code_holds(file: &[u8]) -> bool
     )
 }
 
-// The most extensions that a first record has room for.
-pub(crate) fn mex(reclen: u64) -> u64
-    requires { ⌜ 16 ≤ reclen ⌝ }
-    ensures { λ r. ⌜ r ≡ mexOf reclen ⌝ }
-{
-    let room = (reclen - 14) / 2;
-    if room <= Growth::EXTENSIONS_MAX {
-        room
-    } else {
-        Growth::EXTENSIONS_MAX
-    }
-}
-
 // Rules 3 to 8, on the numbers and the count of bytes lent: the first that is broken, or 0.
-pub(crate) fn setting_refusal(bytes: u64, d: DescriptorNumbers) -> u32
+pub fn setting_refusal(bytes: u64, d: DescriptorNumbers) -> u32
     ensures { λ r. ⌜ r ≡ settingRefusal bytes d ⌝ }
 {
     if !words::within4(

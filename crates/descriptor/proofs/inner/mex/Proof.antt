@@ -1,9 +1,9 @@
--- `descriptor::rules::mex` meets its contract. Assumes nothing.
+-- `descriptor::inner::mex` meets its contract. Assumes nothing.
 use native.Mathlib.Omega.{arith}
 use Rattle.descriptor.specs.FirstRecord.{mexOf}
 use borrow.Author.Needs.{needs}
-use Rattle.descriptor.proofs.rules.mex.Statement.{statement}
-use Rattle.descriptor.proofs.rules.mex.Tie as tie
+use Rattle.descriptor.proofs.inner.mex.Statement.{statement}
+use Rattle.descriptor.proofs.inner.mex.Tie as tie
 
 sub-room : tie.Need-sub-room
 sub-room c = search needs

@@ -1,0 +1,47 @@
+-- What an append answers, and what it leaves in the file.
+use Prim.Native.Nat.{ℕ, _+_}
+use mathlib.Core.Path.{_≡_}
+use mathlib.Core.Bool.{cond}
+use mathlib.Core.List.{List}
+use lib.Dec.{eqb}
+use lib.ListN.{length}
+use Rattle.geometry.specs.declared.units.RecordNumber.{RecordNumber}
+use Rattle.descriptor.specs.declared.numbers.DescriptorNumbers.{DescriptorNumbers}
+use Rattle.descriptor.specs.declared.validating.Validated.{Validated}
+use Rattle.descriptor.specs.declared.validating.Validated.the-variants.{Numbers, Refused}
+use Rattle.descriptor.specs.Answers.{validationOf}
+use Rattle.writer.specs.declared.appending.Appended.{Appended}
+use Rattle.writer.specs.declared.inner.AppendedFrom.{AppendedFrom}
+use Rattle.writer.specs.Handed.{Handed, nwordIn}
+use Rattle.writer.specs.Placing.{entryStart, numbersAfter, addressesAfter}
+use Rattle.writer.specs.Rules.{appendRefusal}
+use Rattle.writer.specs.Writing.{appended}
+
+-- an append to admitted numbers: the refusal, the new number (0 when refused), and the numbers and addresses after it
+unfoldable pub appendedFrom : ℕ → DescriptorNumbers → List RecordNumber → Handed → AppendedFrom
+appendedFrom bytes d addresses h =
+    let n = appendRefusal bytes d h in
+    cond (eqb n 0)
+    (record { refusal = 0; number = d .xnext; numbers = numbersAfter d (entryStart d + nwordIn h); addresses = addressesAfter d addresses })
+    (record { refusal = n; number = record { 0 = 0 }; numbers = d; addresses = addresses })
+
+-- the file after it; a refused one changes nothing
+unfoldable pub fileFrom : List ℕ → DescriptorNumbers → List RecordNumber → Handed → List ℕ
+fileFrom file d addresses h = cond (eqb (appendRefusal (length file) d h) 0) (appended file d addresses h) file
+
+-- an append to a file: the refusal and the new number, and the file after it
+unfoldable pub appendIn : List ℕ → Validated → List RecordNumber → Handed → Appended
+appendIn file (Refused n) addresses h = record { refusal = n; number = record { 0 = 0 } }
+appendIn file (Numbers d) addresses h =
+    let x = appendedFrom (length file) d addresses h in
+    record { refusal = x .refusal; number = x .number }
+
+unfoldable pub fileIn : List ℕ → Validated → List RecordNumber → Handed → List ℕ
+fileIn file (Refused n) addresses h = file
+fileIn file (Numbers d) addresses h = fileFrom file d addresses h
+
+abbrev pub appendOf : List ℕ → Handed → Appended
+appendOf file h = appendIn file (validationOf file .numbers) (validationOf file .addresses) h
+
+abbrev pub fileAfter : List ℕ → Handed → List ℕ
+fileAfter file h = fileIn file (validationOf file .numbers) (validationOf file .addresses) h

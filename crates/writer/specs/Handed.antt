@@ -1,0 +1,68 @@
+-- What is handed to an append, and its numbers.
+use Prim.Native.Nat.{ℕ, zero, suc, _+_, _*_, _/_}
+use mathlib.Core.Bool.{Bool, true, not, cond, _&&_}
+use mathlib.Core.List.{List, [], _∷_}
+use lib.Dec.{eqb}
+use lib.IntN.{ℤ, pos, negsuc}
+use lib.ListN.{length, getD}
+use Rattle.words.specs.Range.{atLeast}
+use Rattle.entry.specs.Contents.{firstContent}
+use Rattle.entry.specs.Tables.{sameInteger}
+
+-- version, index words, identifiers, lengths, section bytes one after another, and data
+pub record Handed : Type 0 where
+  pub version : ℤ
+  pub index : List ℕ
+  pub ids : List ℤ
+  pub lengths : List ℤ
+  pub sections : List ℕ
+  pub values : List ℕ
+
+-- a length as a count of words; a negative one is refused and counts as none
+abbrev pub wordsOf : ℤ → ℕ
+wordsOf (pos n) = n
+wordsOf (negsuc n) = 0
+
+-- the lengths together, exactly
+abbrev pub sumOf : List ℤ → ℕ
+sumOf [] = 0
+sumOf (z ∷ zs) = wordsOf z + sumOf zs
+
+-- an identifier is none of the first k
+unfoldable pub absent : List ℤ → ℤ → ℕ → Bool
+absent ids z zero = true
+absent ids z (suc k) = absent ids z k && not (sameInteger (getD ids k (pos 0)) z)
+
+-- no two of the first k identifiers are equal
+unfoldable pub distinct : List ℤ → ℕ → Bool
+distinct ids zero = true
+distinct ids (suc k) = distinct ids k && absent ids (getD ids k (pos 0)) k
+
+-- the first k lengths are 1 or more
+unfoldable pub positive : List ℤ → ℕ → Bool
+positive lengths zero = true
+positive lengths (suc k) = positive lengths k && atLeast 1 (getD lengths k (pos 0))
+
+-- the entry's numbers: nsec, ldata, nword, and adata, which is 0 without data
+abbrev pub nsecIn : Handed → ℕ
+nsecIn h = length (h .ids)
+
+abbrev pub ldataIn : Handed → ℕ
+ldataIn h = length (h .values) / 4
+
+abbrev pub nwordIn : Handed → ℕ
+nwordIn h = 11 + 5 * nsecIn h + sumOf (h .lengths) + ldataIn h
+
+abbrev pub adataIn : Handed → ℕ
+adataIn h = cond (eqb (ldataIn h) 0) 0 (firstContent (nsecIn h) + sumOf (h .lengths))
+
+-- the arguments of an append together
+abbrev pub handedIn : ℤ → List ℕ → List ℤ → List ℤ → List ℕ → List ℕ → Handed
+handedIn version index ids lengths sections values = record {
+  version = version;
+  index = index;
+  ids = ids;
+  lengths = lengths;
+  sections = sections;
+  values = values;
+}

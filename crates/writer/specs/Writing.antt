@@ -1,0 +1,102 @@
+-- What an accepted append writes, in the order of 01: the new area with nex and its address, the entry, its index, and how far the file is filled.
+use Prim.Native.Nat.{ℕ, _+_, _*_, _-_}
+use mathlib.Core.Bool.{cond}
+use mathlib.Core.List.{List, [], _∷_, _++_}
+use lib.IntN.{ℤ}
+use lib.ListN.{length}
+use Rattle.image.specs.Image.{zeros}
+use Rattle.image.specs.Writes.{Write, put, writes}
+use Rattle.words.specs.Word.{numeral, integer4, integer8, signedNumeral}
+use Rattle.geometry.specs.declared.units.RecordNumber.{RecordNumber}
+use Rattle.geometry.specs.declared.units.Place.{Place}
+use Rattle.geometry.specs.Units.{placeOf, offsetOf}
+use Rattle.descriptor.specs.declared.numbers.DescriptorNumbers.{DescriptorNumbers}
+use Rattle.descriptor.specs.FirstRecord.{freeOf}
+use Rattle.entry.specs.EntryDescriptor.{wordOffset, entryCode}
+use Rattle.entry.specs.Contents.{firstContent}
+use Rattle.entry.specs.Opening.{slotPositionOf}
+use Rattle.writer.specs.Creation.{field, countWrites}
+use Rattle.writer.specs.Handed.{Handed, wordsOf, sumOf, nsecIn, ldataIn, nwordIn, adataIn}
+use Rattle.writer.specs.Placing.{full, newArea, entryStart, numbersAfter, addressesAfter}
+
+-- the identifiers as Integer*4 each, the lengths as Integer*8
+abbrev pub identifierBytes : List ℤ → List ℕ
+identifierBytes [] = []
+identifierBytes (z ∷ zs) = signedNumeral integer4 z ++ identifierBytes zs
+
+abbrev pub lengthBytes : List ℤ → List ℕ
+lengthBytes [] = []
+lengthBytes (z ∷ zs) = signedNumeral integer8 z ++ lengthBytes zs
+
+-- the addresses of sections that stand one after another, the first at word a
+abbrev pub addressBytes : ℕ → List ℤ → List ℕ
+addressBytes a [] = []
+addressBytes a (z ∷ zs) = numeral 8 a ++ addressBytes (a + wordsOf z) zs
+
+-- the new area: the words skipped and the area become zero, nex and its address are set
+abbrev pub areaWrites : DescriptorNumbers → List Write
+areaWrites d =
+    put (offsetOf (freeOf d)) (zeros (offsetOf (entryStart d - freeOf d))) ∷
+    field 13 (numeral 4 (d .nex + 1)) ∷
+    field (15 + 2 * d .nex) (numeral 8 (newArea d .0)) ∷
+    []
+
+-- words 1 to 11 of the entry that starts at a position
+abbrev pub headWrites : ℕ → ℤ → ℕ → ℕ → ℕ → ℕ → ℕ → List Write
+headWrites start version nsec nword adata ldata xnum =
+    put (wordOffset start 1) entryCode ∷
+    put (wordOffset start 2) (signedNumeral integer4 version) ∷
+    put (wordOffset start 3) (numeral 4 nsec) ∷
+    put (wordOffset start 4) (numeral 8 nword) ∷
+    put (wordOffset start 6) (numeral 8 adata) ∷
+    put (wordOffset start 8) (numeral 8 ldata) ∷
+    put (wordOffset start 10) (numeral 8 xnum) ∷
+    []
+
+-- its tables
+abbrev pub tableWrites : ℕ → List ℤ → List ℤ → List Write
+tableWrites start ids lengths =
+    let n = length ids in
+    put (wordOffset start 12) (identifierBytes ids) ∷
+    put (wordOffset start (12 + n)) (lengthBytes lengths) ∷
+    put (wordOffset start (12 + 3 * n)) (addressBytes (firstContent n) lengths) ∷
+    []
+
+-- its sections in order, and its data
+abbrev pub contentWrites : ℕ → Handed → List Write
+contentWrites start h =
+    put (wordOffset start (firstContent (nsecIn h))) (h .sections) ∷
+    put (wordOffset start (firstContent (nsecIn h) + sumOf (h .lengths))) (h .values) ∷
+    []
+
+-- its index: the record and the word where it starts, and the application's words
+abbrev pub slotWrites : ℕ → Place → List ℕ → List Write
+slotWrites slot place index =
+    put (offsetOf slot) (numeral 8 (place .«record» .0)) ∷
+    put (offsetOf (slot + 2)) (numeral 4 (place .word .0)) ∷
+    put (offsetOf (slot + 3)) index ∷
+    []
+
+-- the file after the new area, if one is needed
+unfoldable pub areaWritten : List ℕ → DescriptorNumbers → List ℕ
+areaWritten file d = cond (full d) (writes file (areaWrites d)) file
+
+-- the file after the entry
+unfoldable pub entryWritten : List ℕ → DescriptorNumbers → Handed → List ℕ
+entryWritten file d h =
+    let start = entryStart d in
+    writes (writes (writes file
+    (headWrites start (h .version) (nsecIn h) (nwordIn h) (adataIn h) (ldataIn h) (d .xnext .0)))
+    (tableWrites start (h .ids) (h .lengths)))
+    (contentWrites start h)
+
+-- the file after its index and the counts
+unfoldable pub indexWritten : List ℕ → DescriptorNumbers → List RecordNumber → Handed → List ℕ
+indexWritten file d addresses h =
+    let after = numbersAfter d (entryStart d + nwordIn h) in
+    let slot = slotPositionOf after (addressesAfter d addresses) (d .xnext) in
+    writes (writes file (slotWrites slot (placeOf (d .reclen) (entryStart d)) (h .index))) (countWrites after)
+
+-- the file after an accepted append; all other bytes stay
+unfoldable pub appended : List ℕ → DescriptorNumbers → List RecordNumber → Handed → List ℕ
+appended file d addresses h = indexWritten (entryWritten (areaWritten file d) d h) d addresses h

@@ -1,0 +1,45 @@
+// Creating a file.
+use super::fields::put_counts;
+use super::fields::put_growth;
+use super::fields::put_settings;
+use descriptor::DescriptorNumbers;
+use descriptor::Settings;
+use descriptor::inner::setting_refusal;
+ghost use mathlib.Core.Path.{_≡_};
+ghost use Prim.Native.Nat.{_*_, _≤_};
+ghost use lib.ListN.{length};
+ghost use Rattle.writer.specs.Creation.{firstWritten, creationRefusal, createdFile};
+ghost use Rattle.writer.specs.Bounds.{Storable};
+
+// The refusal of a creation with these numbers: 1, then 3 to 8.
+fn creation_refusal(bytes: u64, settings: Settings) -> u32
+    ensures { λ r. ⌜ r ≡ creationRefusal bytes settings ⌝ }
+{
+    if bytes < 64 {
+        return 1;
+    }
+    setting_refusal(bytes, DescriptorNumbers::new(settings))
+}
+
+// Writes the first record of a new file.
+fn put_first(file: &mut [u8], d: DescriptorNumbers)
+    requires { ⌜ Storable d × (16 ≤ d .reclen) × (d .reclen ≤ 4096) × (4 * d .reclen ≤ length (now file)) ⌝ }
+    ensures { λ _. ⌜ now (file .exit) ≡ firstWritten (now (file .entry)) d ⌝ }
+{
+    put_settings(file, d);
+    put_counts(file, d);
+    put_growth(file, d);
+}
+
+// Creates a file in the lent bytes: its first record, with no entries. Answers 0, or the refusal.
+pub fn create(file: &mut [u8], settings: Settings) -> u32
+    ensures answer { λ r. ⌜ r ≡ creationRefusal (length (now (file .entry))) settings ⌝ }
+    ensures file { λ r. ⌜ now (file .exit) ≡ createdFile (now (file .entry)) settings ⌝ }
+{
+    let refusal = creation_refusal(file.len() as u64, settings);
+    if refusal != 0 {
+        return refusal;
+    }
+    put_first(file, DescriptorNumbers::new(settings));
+    0
+}

@@ -1,0 +1,135 @@
+// Writing an accepted append: the new area, the entry, its index, and the counts.
+use super::fields::put_counts;
+use super::fields::put_field4;
+use super::fields::put_field8;
+use super::placing::new_area;
+use super::tables::put_addresses;
+use super::tables::put_identifiers;
+use super::tables::put_lengths;
+use descriptor::DescriptorNumbers;
+use descriptor::inner::free_position;
+use geometry::EntryAddress;
+use geometry::EntryNumber;
+use geometry::Place;
+use geometry::byte_offset;
+use geometry::entry_position;
+ghost use mathlib.Core.Path.{_≡_};
+ghost use mathlib.Core.Bool.{true};
+ghost use Prim.Native.Nat.{_+_, _*_, _^_, _≤_, _<_};
+ghost use lib.ListN.{length};
+ghost use lib.IntN.{pos};
+ghost use Rattle.image.specs.Image.{splice};
+ghost use Rattle.image.specs.Writes.{writes};
+ghost use Rattle.words.specs.Word.{numeral};
+ghost use Rattle.descriptor.specs.FirstRecord.{freeOf};
+ghost use Rattle.descriptor.specs.Bounds.{Settled, Free};
+ghost use Rattle.entry.specs.EntryDescriptor.{wordOffset};
+ghost use Rattle.writer.specs.Handed.{handedIn, sumOf, positive};
+ghost use Rattle.writer.specs.Placing.{full, entryStart};
+ghost use Rattle.writer.specs.Writing.{areaWritten, headWrites, tableWrites, contentWrites, slotWrites};
+ghost use Rattle.writer.specs.Bounds.{Extensible};
+
+// The numbers in the words 2 to 11 of an entry.
+pub struct Head {
+    pub version: i32,
+    pub nsec: u64,
+    pub nword: u64,
+    pub adata: u64,
+    pub ldata: u64,
+    pub xnum: EntryNumber,
+}
+
+// Makes the new index area, where one is needed: zeros from the next free position to the entry at
+// `start`, nex, and the area's address.
+pub(crate) fn put_area(file: &mut [u8], d: DescriptorNumbers, extend: bool, start: u64)
+    requires { ⌜ Settled d × Free d × (freeOf d ≤ 2 ^ 28) × (extend ≡ full d) × Extensible d × (start ≡ entryStart d)
+        × (start < 2 ^ 32) × (4 * start ≤ length (now file)) × (4 * d .reclen ≤ length (now file)) ⌝ }
+    ensures { λ _. ⌜ now (file .exit) ≡ areaWritten (now (file .entry)) d ⌝ }
+{
+    if extend {
+        let free = free_position(d);
+        image::zero(file, byte_offset(free), byte_offset(start - free));
+        put_field4(file, 13, d.nex + 1);
+        put_field8(file, 15 + 2 * d.nex, new_area(d).0);
+    }
+}
+
+// Writes the Integer*8 at a word of the entry and the next.
+fn put_word8(file: &mut [u8], start: u64, address: u64, bits: u64)
+    requires { ⌜ (1 ≤ address) × (start + address < 2 ^ 32) × (4 * (start + address + 1) ≤ length (now file)) ⌝ }
+    ensures { λ _. ⌜ now (file .exit) ≡ splice (now (file .entry)) (wordOffset start address) (numeral 8 bits) ⌝ }
+{
+    words::put_u64(
+        file,
+        byte_offset(entry_position(start, EntryAddress(address))),
+        bits,
+    )
+}
+
+// Writes words 1 to 11 of the entry.
+pub(crate) fn put_head(file: &mut [u8], start: u64, head: Head)
+    requires { ⌜ (start < 2 ^ 31) × (4 * (start + 11) ≤ length (now file)) × (head .nsec ≤ 64) ⌝ }
+    ensures { λ _. ⌜ now (file .exit) ≡ writes (now (file .entry)) (headWrites start (head .version) (head .nsec) (head .nword) (head .adata) (head .ldata) (head .xnum .0)) ⌝ }
+{
+    let code = [0x32u8, 0x20u8, 0x20u8, 0x20u8];
+    image::put(
+        file,
+        byte_offset(entry_position(start, EntryAddress(1))),
+        &code,
+    );
+    words::put_i32(
+        file,
+        byte_offset(entry_position(start, EntryAddress(2))),
+        head.version,
+    );
+    words::put_u32(
+        file,
+        byte_offset(entry_position(start, EntryAddress(3))),
+        head.nsec as u32,
+    );
+    put_word8(file, start, 4, head.nword);
+    put_word8(file, start, 6, head.adata);
+    put_word8(file, start, 8, head.ldata);
+    put_word8(file, start, 10, head.xnum.0);
+}
+
+// Writes the tables of the entry.
+pub(crate) fn put_tables(file: &mut [u8], start: u64, ids: &[i32], lengths: &[i64])
+    requires { ⌜ (start < 2 ^ 31) × (length (now ids) ≤ 64) × (length (now lengths) ≡ length (now ids)) × (4 * (start + 11 + 5 * length (now ids)) ≤ length (now file))
+        × (positive (now lengths) (length (now lengths)) ≡ true) × (sumOf (now lengths) < 2 ^ 62) ⌝ }
+    ensures { λ _. ⌜ now (file .exit) ≡ writes (now (file .entry)) (tableWrites start (now (ids .entry)) (now (lengths .entry))) ⌝ }
+{
+    let nsec = ids.len() as u64;
+    put_identifiers(file, entry_position(start, EntryAddress(12)), ids);
+    put_lengths(
+        file,
+        entry_position(start, EntryAddress(12 + nsec)),
+        lengths,
+    );
+    put_addresses(
+        file,
+        entry_position(start, EntryAddress(12 + 3 * nsec)),
+        12 + 5 * nsec,
+        lengths,
+    );
+}
+
+// Writes the sections and the data of the entry, from a word of it on.
+pub(crate) fn put_content(file: &mut [u8], start: u64, first: u64, sections: &[u8], values: &[u8])
+    requires { ⌜ (1 ≤ first) × (start + first < 2 ^ 32) × (wordOffset start first + length (now sections) + length (now values) ≤ length (now file)) ⌝ }
+    ensures { λ _. ⌜ now (file .exit) ≡ splice (splice (now (file .entry)) (wordOffset start first) (now (sections .entry))) (wordOffset start first + length (now (sections .entry))) (now (values .entry)) ⌝ }
+{
+    let at = byte_offset(entry_position(start, EntryAddress(first)));
+    image::put(file, at, sections);
+    image::put(file, at + sections.len(), values);
+}
+
+// Writes the index of the entry: where it starts, and the application's words.
+pub(crate) fn put_slot(file: &mut [u8], slot: u64, place: Place, index: &[u8])
+    requires { ⌜ (slot < 2 ^ 32) × (place .word .0 < 2 ^ 32) × (4 * (slot + 3) + length (now index) ≤ length (now file)) ⌝ }
+    ensures { λ _. ⌜ now (file .exit) ≡ writes (now (file .entry)) (slotWrites slot place (now (index .entry))) ⌝ }
+{
+    words::put_u64(file, byte_offset(slot), place.record.0);
+    words::put_u32(file, byte_offset(slot + 2), place.word.0 as u32);
+    image::put(file, byte_offset(slot + 3), index);
+}

@@ -1,0 +1,52 @@
+// Writing the three tables of an entry descriptor.
+use geometry::byte_offset;
+ghost use mathlib.Core.Path.{_≡_};
+ghost use mathlib.Core.Bool.{true};
+ghost use Prim.Native.Nat.{_+_, _*_, _^_, _≤_, _<_};
+ghost use lib.ListN.{length};
+ghost use Rattle.image.specs.Image.{splice};
+ghost use Rattle.geometry.specs.Units.{offsetOf};
+ghost use Rattle.writer.specs.Handed.{sumOf, positive};
+ghost use Rattle.writer.specs.Writing.{identifierBytes, lengthBytes, addressBytes};
+
+// Writes identifiers one after another from a position on.
+pub(crate) fn put_identifiers(file: &mut [u8], position: u64, ids: &[i32])
+    requires { ⌜ (position < 2 ^ 32) × (length (now ids) ≤ 64) × (4 * (position + length (now ids)) ≤ length (now file)) ⌝ }
+    ensures { λ _. ⌜ now (file .exit) ≡ splice (now (file .entry)) (offsetOf position) (identifierBytes (now (ids .entry))) ⌝ }
+{
+    let mut done = 0;
+    while done < ids.len() {
+        let identifier = ids[done];
+        words::put_i32(file, byte_offset(position + (done as u64)), identifier);
+        done += 1;
+    }
+}
+
+// Writes lengths one after another from a position on.
+pub(crate) fn put_lengths(file: &mut [u8], position: u64, lengths: &[i64])
+    requires { ⌜ (position < 2 ^ 32) × (length (now lengths) ≤ 64) × (4 * (position + 2 * length (now lengths)) ≤ length (now file)) ⌝ }
+    ensures { λ _. ⌜ now (file .exit) ≡ splice (now (file .entry)) (offsetOf position) (lengthBytes (now (lengths .entry))) ⌝ }
+{
+    let mut done = 0;
+    while done < lengths.len() {
+        let words = lengths[done];
+        words::put_i64(file, byte_offset(position + 2 * (done as u64)), words);
+        done += 1;
+    }
+}
+
+// Writes the addresses of sections of these lengths, the first at word `first` of its entry, one
+// address after another from a position on.
+pub(crate) fn put_addresses(file: &mut [u8], position: u64, first: u64, lengths: &[i64])
+    requires { ⌜ (position < 2 ^ 32) × (length (now lengths) ≤ 64) × (4 * (position + 2 * length (now lengths)) ≤ length (now file))
+        × (positive (now lengths) (length (now lengths)) ≡ true) × (first + sumOf (now lengths) < 2 ^ 63) ⌝ }
+    ensures { λ _. ⌜ now (file .exit) ≡ splice (now (file .entry)) (offsetOf position) (addressBytes first (now (lengths .entry))) ⌝ }
+{
+    let mut address = first;
+    let mut done = 0;
+    while done < lengths.len() {
+        words::put_u64(file, byte_offset(position + 2 * (done as u64)), address);
+        address += words::bits64(lengths[done]);
+        done += 1;
+    }
+}
