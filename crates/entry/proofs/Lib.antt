@@ -2,3 +2,4 @@
 pub mod Pieces
 pub mod SectionTables
 pub mod Entering
+pub mod Handing

@@ -1,62 +1,80 @@
-use borrow.Author.Needs.{needs}
+-- `entry::answers::open_entry` meets its contract, by the validation's case. Assumes nothing.
+use mathlib.Core.Path.{_≡_, sym, ap, _∙_}
+use borrow.Author.Tests.{eq-eqb, ne-eqb}
+use borrow.Author.Needs.{needs, sfits-of}
+use lib.ListN.{length}
+use mir.Syntax.{w32}
+use mir.Val.{toZ, ofZ}
+use mir.Facts.{toZ-ofZ}
+use Rattle.descriptor.specs.Bounds.{Admitted}
+use Rattle.descriptor.specs.Answers.{numberOf}
+use Rattle.descriptor.proofs.Answered.{told}
+use Rattle.entry.specs.Answers.{openedAs, openOf}
+use Rattle.entry.proofs.Handing.{known, open-refused, open-numbers}
 use Rattle.entry.proofs.answers.open_entry.Statement.{statement}
 use Rattle.entry.proofs.answers.open_entry.Tie as tie
-use Rattle.entry.proofs.answers.open_entry.Reads as reads
-use Rattle.entry.proofs.answers.open_entry.Lts as lts
-use Rattle.descriptor.proofs.refusal_of.Reads as refusal-of-reads
-use Rattle.descriptor.proofs.validate.Reads as validate-reads
-use Rattle.entry.proofs.answers.no_sections.Reads as no-sections-reads
-use Rattle.entry.proofs.inner.enter.Reads as enter-reads
-use Rattle.entry.proofs.tables.section_tables.Reads as section-tables-reads
-use Rattle.words.proofs.signed64.Reads as signed64-reads
 
--- src/answers.rt:58:9
+admitted : (c : tie.After-addresses) → Admitted (length (c .before .before .before .before .before .before .args .file .now)) (c .before .before .case .given .0 .0) (c .before .before .before .before .validate .result .addresses)
+admitted c =
+    let v = c .before .before .before .before .validate in
+    told (c .before .before .before .before .before .before .args .file .now) (v .result) (c .before .before .case .given .0 .0) (v .ensures) (c .before .before .case .given .1) .admitted
+
+-- the answer is made of what was entered
+answer : (c : tie.After-enter) → let a = c .before .before .before .before .before .before .before .args in
+    openOf (a .file .now) (a .number) ≡ openedAs (a .file .now) (c .enter .result)
+answer c =
+    let a = c .before .before .before .before .before .before .before .args in
+    open-numbers (a .file .now) (a .number) (c .before .before .before .before .before .validate .ensures) (c .before .before .before .case .given .1)
+    ∙ ap (openedAs (a .file .now)) (sym (c .enter .ensures))
+
 validate-requires : tie.Need-validate-requires
 validate-requires c κs = search needs
 
--- src/answers.rt:60:28
 enum-known-case : tie.Need-enum-known-case
 enum-known-case c = search needs
 
--- src/answers.rt:62:35
 enum-told : tie.Need-enum-told
 enum-told c = search needs
 
--- src/answers.rt:62:35
 refusal-of-requires : tie.Need-refusal-of-requires
 refusal-of-requires c κs = search needs
 
--- src/answers.rt:63:23
 no-sections-requires : tie.Need-no-sections-requires
 no-sections-requires c κs = search needs
 
--- src/answers.rt:61:9
 returns : tie.Need-returns
-returns c = ?
+returns c =
+    let a = c .before .before .before .before .before .before .args in
+    let t = c .before .before .enum-told .given .1 in
+    rw (c .before .refusal-of .ensures ∙ ap numberOf t, c .no-sections .ensures) (sym (open-refused (a .file .now) (a .number) (c .before .before .before .before .validate .ensures) t))
 
--- src/answers.rt:67:9
 enter-requires : tie.Need-enter-requires
-enter-requires c κs = ?
+enter-requires c κs = admitted c
 
--- src/answers.rt:71:23
 no-sections-requires-2 : tie.Need-no-sections-requires-2
 no-sections-requires-2 c κs = search needs
 
--- src/answers.rt:69:9
 returns-2 : tie.Need-returns-2
-returns-2 c = ?
+unfolding openedAs
+returns-2 c =
+    let x = c .before .before .before in
+    rw (c .no-sections2 .ensures, answer x, ne-eqb (x .enter .result .refusal) 0 (c .before .if1 .taken))
 
--- src/answers.rt:77:28
 signed64-requires : tie.Need-signed64-requires
 signed64-requires c κs = search needs
 
--- src/answers.rt:82:19
 section-tables-requires : tie.Need-section-tables-requires
-section-tables-requires c κs = ?
+section-tables-requires c κs =
+    let x = c .before .before .before .before .before .before in
+    known _ _ _ _ (x .enter .result) (admitted (x .before)) (x .enter .ensures) (c .before .before .before .before .if1 .left) .described
 
--- src/answers.rt:55:1
 returns-3 : tie.Need-returns-3
-returns-3 c = ?
+unfolding openedAs
+returns-3 c =
+    let s = c .before .before .signed64 in
+    let x = c .before .before .before .before .before .before .before in
+    let version : toZ w32 (ofZ w32 (x .enter .result .version)) ≡ x .enter .result .version = toZ-ofZ (sfits-of (c .before .struct-told .given .1 .1 .1 .0 .1)) in
+    rw (c .section-tables .ensures, version, toZ-ofZ (sfits-of (s .ok)), s .ensures, answer x, eq-eqb (x .enter .result .refusal) 0 (c .before .before .before .before .before .if1 .left))
 
 pub open-entry-spec : {M : Type 1} → statement M
 open-entry-spec =

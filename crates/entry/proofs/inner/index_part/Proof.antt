@@ -1,44 +1,58 @@
+-- `entry::inner::index_part` meets its contract. Assumes nothing.
+use Prim.Native.Nat.{_+_, _^_, _≤_}
+use mathlib.Core.Path.{_∙_}
+use native.Mathlib.Omega.{arith}
+use borrow.Author.Tests.{eq-eqb, ne-eqb}
+use Rattle.entry.specs.Answers.{indexPart}
+use Rattle.entry.proofs.Handing.{Known, known, slot-ends}
 use borrow.Author.Needs.{needs}
 use Rattle.entry.proofs.inner.index_part.Statement.{statement}
 use Rattle.entry.proofs.inner.index_part.Tie as tie
-use Rattle.entry.proofs.inner.index_part.Reads as reads
-use Rattle.entry.proofs.inner.index_part.Lts as lts
-use Rattle.entry.proofs.inner.enter.Reads as enter-reads
-use Rattle.entry.proofs.inner.no_part.Reads as no-part-reads
-use Rattle.entry.proofs.inner.slot_position.Reads as slot-position-reads
-use Rattle.entry.proofs.inner.words_from.Reads as words-from-reads
 
--- src/inner.rt:130:9
+-- the entry opened
+opened : (c : tie.Else1) → let a = c .before .before .before .before .args in Known (a .file .now) (a .d) (a .number) (c .before .before .enter .result)
+opened c =
+    let s = c .before .before .before .before in
+    let x = c .before .before .enter in
+    known (s .args .file .now) (s .args .d) (s .args .addresses) (s .args .number) (x .result) (s .pre) (x .ensures) (c .if1 .left)
+
+-- and its slot ends within the file
+ends : (c : tie.After-slot-position) → c .slot-position .result + c .before .before .before .before .before .args .d .lind ≤ 2 ^ 28
+ends c =
+    let s = c .before .before .before .before .before in
+    let inside = slot-ends (s .args .file .now) (s .args .d) (s .args .addresses) (s .args .number) _ (s .pre) (opened (c .before)) in
+    omega (arith, c .slot-position .ensures, s .pre .lent .high)
+
 enter-requires : tie.Need-enter-requires
 enter-requires c κs = search needs
 
--- src/inner.rt:132:9
 no-part-requires : tie.Need-no-part-requires
 no-part-requires c κs = search needs
 
--- src/inner.rt:132:9
 returns : tie.Need-returns
-returns c = ?
+unfolding indexPart
+returns c =
+    let x = c .before .before .before .enter in
+    c .no-part .ensures ∙ rw (← (x .ensures), ne-eqb (x .result .refusal) 0 (c .before .if1 .taken))
 
--- src/inner.rt:134:9
 slot-position-requires : tie.Need-slot-position-requires
-slot-position-requires c κs = ?
+slot-position-requires c κs = let o = opened c in (c .before .before .before .before .pre, o .number-low, o .number-high)
 
--- src/inner.rt:135:16
 add-words-from : tie.Need-add-words-from
-add-words-from c = ?
+add-words-from c = omega (arith, ends c)
 
--- src/inner.rt:135:26
 sub-words-from : tie.Need-sub-words-from
 sub-words-from c = search needs
 
--- src/inner.rt:135:5
 words-from-requires : tie.Need-words-from-requires
-words-from-requires c κs = ?
+words-from-requires c κs = omega (arith, ends (c .before))
 
--- src/inner.rt:121:1
 returns-2 : tie.Need-returns-2
-returns-2 c = ?
+unfolding indexPart
+returns-2 c =
+    let s = c .before .before in
+    let x = s .before .before .before .enter in
+    c .words-from .ensures ∙ rw (s .slot-position .ensures, ← (x .ensures), eq-eqb (x .result .refusal) 0 (s .before .if1 .left))
 
 pub index-part-spec : {M : Type 1} → statement M
 index-part-spec =

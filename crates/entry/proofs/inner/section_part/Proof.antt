@@ -1,54 +1,80 @@
+-- `entry::inner::section_part` meets its contract. Assumes nothing.
+use mathlib.Core.Path.{_≡_, _∙_}
+use borrow.Author.Tests.{eq-eqb, ne-eqb, lt-ltb, le-ltb}
+use mir.Facts.{toZ-ofZ}
+use Rattle.entry.specs.Tables.{sectionNamed}
+use Rattle.entry.specs.Answers.{sectionPart}
+use Rattle.entry.proofs.Pieces.{Placed, section-placed}
+use Rattle.entry.proofs.Handing.{Known, known, piece-stands, piece-fits}
 use borrow.Author.Needs.{needs}
 use Rattle.entry.proofs.inner.section_part.Statement.{statement}
 use Rattle.entry.proofs.inner.section_part.Tie as tie
-use Rattle.entry.proofs.inner.section_part.Reads as reads
-use Rattle.entry.proofs.inner.section_part.Lts as lts
-use Rattle.entry.proofs.contents.section_at.Reads as section-at-reads
-use Rattle.entry.proofs.inner.enter.Reads as enter-reads
-use Rattle.entry.proofs.inner.no_part.Reads as no-part-reads
-use Rattle.entry.proofs.inner.words_from.Reads as words-from-reads
-use Rattle.entry.proofs.tables.section_named.Reads as section-named-reads
-use Rattle.geometry.proofs.entry_position.Reads as entry-position-reads
 
--- src/inner.rt:149:9
+-- the entry opened
+opened : (c : tie.Else1) → let a = c .before .before .before .before .args in Known (a .file .now) (a .d) (a .number) (c .before .before .enter .result)
+opened c =
+    let s = c .before .before .before .before in
+    let x = c .before .before .enter in
+    known (s .args .file .now) (s .args .d) (s .args .addresses) (s .args .number) (x .result) (s .pre) (x .ensures) (c .if1 .left)
+
+-- which section has the identifier
+found : (c : tie.After-section-named) → let a = c .before .before .before .before .before .args in
+    let x = c .before .before .before .enter .result in
+    c .section-named .result ≡ sectionNamed (a .file .now) (x .start) (a .identifier) 0 (x .nsec)
+found c = rw (toZ-ofZ (c .before .before .before .before .before .fits .identifier)) at (c .section-named .ensures)
+
+-- and it lies within the entry
+placed : (c : tie.After-section-at) → let x = c .before .before .before .before .before .before .enter .result in Placed (x .nsec) (x .nword) (c .section-at .result)
+placed c =
+    let n = c .before .before .before in
+    let x = n .before .before .before .enter .result in
+    rw (c .section-at .ensures)
+    (section-placed (n .before .before .before .before .before .args .file .now) (x .start) (x .nsec) (x .nword) (n .section-named .result) (x .nsec) (c .before .if2 .left) (opened (n .before) .sections-within))
+
 enter-requires : tie.Need-enter-requires
 enter-requires c κs = search needs
 
--- src/inner.rt:151:9
 no-part-requires : tie.Need-no-part-requires
 no-part-requires c κs = search needs
 
--- src/inner.rt:151:9
 returns : tie.Need-returns
-returns c = ?
+unfolding sectionPart
+returns c =
+    let x = c .before .before .before .enter in
+    c .no-part .ensures ∙ rw (← (x .ensures), ne-eqb (x .result .refusal) 0 (c .before .if1 .taken))
 
--- src/inner.rt:153:9
 section-named-requires : tie.Need-section-named-requires
-section-named-requires c κs = ?
+section-named-requires c κs = opened c .described
 
--- src/inner.rt:155:9
 no-part-requires-2 : tie.Need-no-part-requires-2
 no-part-requires-2 c κs = search needs
 
--- src/inner.rt:155:9
 returns-2 : tie.Need-returns-2
-returns-2 c = ?
+unfolding sectionPart
+returns-2 c =
+    let n = c .before .before .before in
+    let x = n .before .before .before .enter in
+    c .no-part2 .ensures
+    ∙ rw (← (x .ensures), eq-eqb (x .result .refusal) 0 (n .before .if1 .left), ← (found n), le-ltb (n .section-named .result) (x .result .nsec) (c .before .if2 .taken))
 
--- src/inner.rt:157:9
 section-at-requires : tie.Need-section-at-requires
-section-at-requires c κs = ?
+section-at-requires c κs = (opened (c .before .before .before) .described, c .if2 .left)
 
--- src/inner.rt:158:16
 entry-position-requires : tie.Need-entry-position-requires
-entry-position-requires c κs = ?
+entry-position-requires c κs = piece-stands _ _ _ _ _ (opened (c .before .before .before .before)) (placed c)
 
--- src/inner.rt:158:5
 words-from-requires : tie.Need-words-from-requires
-words-from-requires c κs = ?
+words-from-requires c κs =
+    rw (c .entry-position .ensures) (piece-fits _ _ _ _ _ (opened (c .before .before .before .before .before)) (placed (c .before)))
 
--- src/inner.rt:139:1
 returns-3 : tie.Need-returns-3
-returns-3 c = ?
+unfolding sectionPart
+returns-3 c =
+    let p = c .before .before in
+    let n = p .before .before .before in
+    let x = n .before .before .before .enter in
+    c .words-from .ensures
+    ∙ rw (c .before .entry-position .ensures, ← (x .ensures), eq-eqb (x .result .refusal) 0 (n .before .if1 .left), ← (found n), lt-ltb (n .section-named .result) (x .result .nsec) (p .before .if2 .left), ← (p .section-at .ensures))
 
 pub section-part-spec : {M : Type 1} → statement M
 section-part-spec =

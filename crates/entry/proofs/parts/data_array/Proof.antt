@@ -1,29 +1,30 @@
+-- `entry::parts::data_array` meets its contract: the place lies within the file. Assumes nothing.
+use mathlib.Core.Path.{refl}
+use lib.ListN.{length}
+use Rattle.entry.proofs.Handing.{Inside, data-words-inside, handed}
 use borrow.Author.Needs.{needs}
 use Rattle.entry.proofs.parts.data_array.Statement.{statement}
 use Rattle.entry.proofs.parts.data_array.Tie as tie
-use Rattle.entry.proofs.parts.data_array.Reads as reads
-use Rattle.entry.proofs.parts.data_array.Lts as lts
-use Rattle.entry.proofs.parts.data_array_place.Reads as data-array-place-reads
 
--- src/parts.rt:97:9
+inside : (c : tie.After-data-array-place) → Inside (length (c .before .before .args .file .now)) (c .data-array-place .result)
+inside c =
+    let a = c .before .before .args in
+    rw (c .data-array-place .ensures) (data-words-inside (a .file .now) (a .number))
+
 data-array-place-requires : tie.Need-data-array-place-requires
 data-array-place-requires c κs = search needs
 
--- src/parts.rt:100:5
 sub-result : tie.Need-sub-result
-sub-result c = ?
+sub-result c = inside c .ordered
 
--- src/parts.rt:100:5
 part-result-start : tie.Need-part-result-start
-part-result-start c = ?
+part-result-start c = inside c .ordered
 
--- src/parts.rt:100:5
 part-result-end : tie.Need-part-result-end
-part-result-end c = ?
+part-result-end c = inside c .ends
 
--- src/parts.rt:94:1
 returns : tie.Need-returns
-returns c = ?
+returns c = handed (c .before .data-array-place .ensures) refl refl
 
 pub data-array-spec : {M : Type 1} → statement M
 data-array-spec =

@@ -1,29 +1,30 @@
+-- `entry::parts::index_words` meets its contract: the place lies within the file. Assumes nothing.
+use mathlib.Core.Path.{refl}
+use lib.ListN.{length}
+use Rattle.entry.proofs.Handing.{Inside, index-words-inside, handed}
 use borrow.Author.Needs.{needs}
 use Rattle.entry.proofs.parts.index_words.Statement.{statement}
 use Rattle.entry.proofs.parts.index_words.Tie as tie
-use Rattle.entry.proofs.parts.index_words.Reads as reads
-use Rattle.entry.proofs.parts.index_words.Lts as lts
-use Rattle.entry.proofs.parts.index_words_place.Reads as index-words-place-reads
 
--- src/parts.rt:31:9
+inside : (c : tie.After-index-words-place) → Inside (length (c .before .before .args .file .now)) (c .index-words-place .result)
+inside c =
+    let a = c .before .before .args in
+    rw (c .index-words-place .ensures) (index-words-inside (a .file .now) (a .number))
+
 index-words-place-requires : tie.Need-index-words-place-requires
 index-words-place-requires c κs = search needs
 
--- src/parts.rt:34:5
 sub-result : tie.Need-sub-result
-sub-result c = ?
+sub-result c = inside c .ordered
 
--- src/parts.rt:34:5
 part-result-start : tie.Need-part-result-start
-part-result-start c = ?
+part-result-start c = inside c .ordered
 
--- src/parts.rt:34:5
 part-result-end : tie.Need-part-result-end
-part-result-end c = ?
+part-result-end c = inside c .ends
 
--- src/parts.rt:28:1
 returns : tie.Need-returns
-returns c = ?
+returns c = handed (c .before .index-words-place .ensures) refl refl
 
 pub index-words-spec : {M : Type 1} → statement M
 index-words-spec =

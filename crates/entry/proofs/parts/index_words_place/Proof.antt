@@ -1,44 +1,42 @@
+-- `entry::parts::index_words_place` meets its contract, by the validation's case. Assumes nothing.
+use Rattle.descriptor.proofs.Answered.{told}
+use Rattle.entry.specs.Answers.{indexPart}
+use Rattle.entry.proofs.Handing.{whole-refused, whole-numbers}
 use borrow.Author.Needs.{needs}
 use Rattle.entry.proofs.parts.index_words_place.Statement.{statement}
 use Rattle.entry.proofs.parts.index_words_place.Tie as tie
-use Rattle.entry.proofs.parts.index_words_place.Reads as reads
-use Rattle.entry.proofs.parts.index_words_place.Lts as lts
-use Rattle.descriptor.proofs.refusal_of.Reads as refusal-of-reads
-use Rattle.descriptor.proofs.validate.Reads as validate-reads
-use Rattle.entry.proofs.inner.index_part.Reads as index-part-reads
-use Rattle.entry.proofs.inner.no_part.Reads as no-part-reads
 
--- src/parts.rt:18:9
 validate-requires : tie.Need-validate-requires
 validate-requires c κs = search needs
 
--- src/parts.rt:20:28
 enum-known-case : tie.Need-enum-known-case
 enum-known-case c = search needs
 
--- src/parts.rt:21:24
 enum-told : tie.Need-enum-told
 enum-told c = search needs
 
--- src/parts.rt:21:24
 refusal-of-requires : tie.Need-refusal-of-requires
 refusal-of-requires c κs = search needs
 
--- src/parts.rt:21:9
 no-part-requires : tie.Need-no-part-requires
 no-part-requires c κs = search needs
 
--- src/parts.rt:21:9
 returns : tie.Need-returns
-returns c = ?
+returns c =
+    let a = c .before .before .before .before .before .before .args in
+    let v = c .before .before .before .before .validate in
+    whole-refused (a .file .now) (λ addresses d. indexPart (a .file .now) d addresses (a .number)) (v .ensures) (c .before .before .enum-told .given .1) (c .before .refusal-of .ensures) (c .no-part .ensures)
 
--- src/parts.rt:24:5
 index-part-requires : tie.Need-index-part-requires
-index-part-requires c κs = ?
+index-part-requires c κs =
+    let v = c .before .before .before .before .validate in
+    told (c .before .before .before .before .before .before .args .file .now) (v .result) (c .before .before .case .given .0 .0) (v .ensures) (c .before .before .case .given .1) .admitted
 
--- src/parts.rt:15:1
 returns-2 : tie.Need-returns-2
-returns-2 c = ?
+returns-2 c =
+    let a = c .before .before .before .before .before .before .before .args in
+    let v = c .before .before .before .before .before .validate in
+    whole-numbers (a .file .now) (λ addresses d. indexPart (a .file .now) d addresses (a .number)) (v .ensures) (c .before .before .before .case .given .1) (c .index-part .ensures)
 
 pub index-words-place-spec : {M : Type 1} → statement M
 index-words-place-spec =

@@ -1,17 +1,15 @@
+-- `entry::parts::index_words_refusal` meets its contract. Assumes nothing.
+use mathlib.Core.Path.{ap}
+use Rattle.entry.specs.declared.answers.PartPlace.{PartPlace}
 use borrow.Author.Needs.{needs}
 use Rattle.entry.proofs.parts.index_words_refusal.Statement.{statement}
 use Rattle.entry.proofs.parts.index_words_refusal.Tie as tie
-use Rattle.entry.proofs.parts.index_words_refusal.Reads as reads
-use Rattle.entry.proofs.parts.index_words_refusal.Lts as lts
-use Rattle.entry.proofs.parts.index_words_place.Reads as index-words-place-reads
 
--- src/parts.rt:41:5
 index-words-place-requires : tie.Need-index-words-place-requires
 index-words-place-requires c κs = search needs
 
--- src/parts.rt:38:1
 returns : tie.Need-returns
-returns c = ?
+returns c = ap (λ (p : PartPlace). p .refusal) (c .index-words-place .ensures)
 
 pub index-words-refusal-spec : {M : Type 1} → statement M
 index-words-refusal-spec = tie.close (tie.spec index-words-place-requires returns)

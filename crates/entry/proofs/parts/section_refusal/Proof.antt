@@ -1,17 +1,16 @@
+-- `entry::parts::section_refusal` meets its contract. Assumes nothing.
+use mathlib.Core.Path.{ap}
+use mir.Facts.{toZ-ofZ}
+use Rattle.entry.specs.declared.answers.PartPlace.{PartPlace}
 use borrow.Author.Needs.{needs}
 use Rattle.entry.proofs.parts.section_refusal.Statement.{statement}
 use Rattle.entry.proofs.parts.section_refusal.Tie as tie
-use Rattle.entry.proofs.parts.section_refusal.Reads as reads
-use Rattle.entry.proofs.parts.section_refusal.Lts as lts
-use Rattle.entry.proofs.parts.section_place.Reads as section-place-reads
 
--- src/parts.rt:77:5
 section-place-requires : tie.Need-section-place-requires
 section-place-requires c κs = search needs
 
--- src/parts.rt:74:1
 returns : tie.Need-returns
-returns c = ?
+returns c = ap (λ (p : PartPlace). p .refusal) (rw (toZ-ofZ (c .before .before .fits .identifier)) at (c .section-place .ensures))
 
 pub section-refusal-spec : {M : Type 1} → statement M
 section-refusal-spec = tie.close (tie.spec section-place-requires returns)
