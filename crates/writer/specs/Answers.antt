@@ -18,12 +18,17 @@ use Rattle.writer.specs.Rules.{appendRefusal}
 use Rattle.writer.specs.Writing.{appended}
 
 -- an append to admitted numbers: the refusal, the new number (0 when refused), and the numbers and addresses after it
+abbrev pub acceptedFrom : DescriptorNumbers → List RecordNumber → Handed → AppendedFrom
+acceptedFrom d addresses h =
+    record { refusal = 0; number = d .xnext; numbers = numbersAfter d (entryStart d + nwordIn h); addresses = addressesAfter d addresses }
+
+abbrev pub refusedFrom : ℕ → DescriptorNumbers → List RecordNumber → AppendedFrom
+refusedFrom n d addresses = record { refusal = n; number = record { 0 = 0 }; numbers = d; addresses = addresses }
+
 unfoldable pub appendedFrom : ℕ → DescriptorNumbers → List RecordNumber → Handed → AppendedFrom
 appendedFrom bytes d addresses h =
     let n = appendRefusal bytes d h in
-    cond (eqb n 0)
-    (record { refusal = 0; number = d .xnext; numbers = numbersAfter d (entryStart d + nwordIn h); addresses = addressesAfter d addresses })
-    (record { refusal = n; number = record { 0 = 0 }; numbers = d; addresses = addresses })
+    cond (eqb n 0) (acceptedFrom d addresses h) (refusedFrom n d addresses)
 
 -- the file after it; a refused one changes nothing
 unfoldable pub fileFrom : List ℕ → DescriptorNumbers → List RecordNumber → Handed → List ℕ

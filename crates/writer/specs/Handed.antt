@@ -1,12 +1,10 @@
 -- What is handed to an append, and its numbers.
 use Prim.Native.Nat.{ℕ, zero, suc, _+_, _*_, _/_}
-use mathlib.Core.Bool.{Bool, true, not, cond, _&&_}
+use mathlib.Core.Bool.{Bool, true, not, _&&_}
 use mathlib.Core.List.{List, [], _∷_}
-use lib.Dec.{eqb}
 use lib.IntN.{ℤ, pos, negsuc}
 use lib.ListN.{length, getD}
 use Rattle.words.specs.Range.{atLeast}
-use Rattle.entry.specs.Contents.{firstContent}
 use Rattle.entry.specs.Tables.{sameInteger}
 
 -- version, index words, identifiers, lengths, section bytes one after another, and data
@@ -43,7 +41,7 @@ unfoldable pub positive : List ℤ → ℕ → Bool
 positive lengths zero = true
 positive lengths (suc k) = positive lengths k && atLeast 1 (getD lengths k (pos 0))
 
--- the entry's numbers: nsec, ldata, nword, and adata, which is 0 without data
+-- the entry's numbers: nsec, ldata and nword
 abbrev pub nsecIn : Handed → ℕ
 nsecIn h = length (h .ids)
 
@@ -52,9 +50,6 @@ ldataIn h = length (h .values) / 4
 
 abbrev pub nwordIn : Handed → ℕ
 nwordIn h = 11 + 5 * nsecIn h + sumOf (h .lengths) + ldataIn h
-
-abbrev pub adataIn : Handed → ℕ
-adataIn h = cond (eqb (ldataIn h) 0) 0 (firstContent (nsecIn h) + sumOf (h .lengths))
 
 -- the arguments of an append together
 abbrev pub handedIn : ℤ → List ℕ → List ℤ → List ℤ → List ℕ → List ℕ → Handed

@@ -3,6 +3,7 @@ use Prim.Native.Nat.{ℕ, _+_, _*_, _-_, _/_, _%_}
 use mathlib.Core.Bool.{not, _||_}
 use mathlib.Core.List.{List, [], _∷_, _++_}
 use lib.Dec.{leb, ltb, eqb}
+use lib.IntN.{ℤ}
 use lib.ListN.{length}
 use Rattle.geometry.specs.Units.{offsetOf}
 use Rattle.geometry.specs.Growth.{capacityOf}
@@ -13,15 +14,15 @@ use Rattle.writer.specs.Handed.{Handed, sumOf, distinct, positive, nword
 use Rattle.writer.specs.Placing.{full, entryStart}
 
 -- rules 21 and 22: what is handed in
-abbrev pub handedRules : DescriptorNumbers → Handed → List Rule
-handedRules d h =
-    row 21 (eqb (length (h .index)) (offsetOf (d .lind - 3))) ∷
-    row 22 (leb (length (h .ids)) 64) ∷
-    row 22 (eqb (length (h .lengths)) (length (h .ids))) ∷
-    row 22 (distinct (h .ids) (length (h .ids))) ∷
-    row 22 (positive (h .lengths) (length (h .lengths))) ∷
-    row 22 (eqb (length (h .sections)) (offsetOf (sumOf (h .lengths)))) ∷
-    row 22 (eqb (length (h .values) % 4) 0) ∷
+abbrev pub handedRules : DescriptorNumbers → List ℕ → List ℤ → List ℤ → List ℕ → List ℕ → List Rule
+handedRules d index ids lengths sections values =
+    row 21 (eqb (length index) (offsetOf (d .lind - 3))) ∷
+    row 22 (leb (length ids) 64) ∷
+    row 22 (eqb (length lengths) (length ids)) ∷
+    row 22 (distinct ids (length ids)) ∷
+    row 22 (positive lengths (length lengths)) ∷
+    row 22 (eqb (length sections) (offsetOf (sumOf lengths))) ∷
+    row 22 (eqb (length values % 4) 0) ∷
     []
 
 -- rule 23: where the extensions in use are full, another may be made
@@ -36,8 +37,8 @@ abbrev pub spaceRules : ℕ → DescriptorNumbers → ℕ → List Rule
 spaceRules bytes d nword = row 24 (leb (entryStart d + nword) (bytes / 4)) ∷ []
 
 -- the refusals of these parts, 0 where all their rules hold
-unfoldable pub handedRefusal : DescriptorNumbers → Handed → ℕ
-handedRefusal d h = refusalIn (handedRules d h)
+unfoldable pub handedRefusal : DescriptorNumbers → List ℕ → List ℤ → List ℤ → List ℕ → List ℕ → ℕ
+handedRefusal d index ids lengths sections values = refusalIn (handedRules d index ids lengths sections values)
 
 unfoldable pub extensionRefusal : DescriptorNumbers → ℕ
 extensionRefusal d = refusalIn (extensionRules d)
@@ -47,7 +48,8 @@ spaceRefusal bytes d nword = refusalIn (spaceRules bytes d nword)
 
 -- the whole table, and its refusal
 abbrev pub appendRules : ℕ → DescriptorNumbers → Handed → List Rule
-appendRules bytes d h = handedRules d h ++ (extensionRules d ++ spaceRules bytes d (nwordIn h))
+appendRules bytes d h =
+    handedRules d (h .index) (h .ids) (h .lengths) (h .sections) (h .values) ++ (extensionRules d ++ spaceRules bytes d (nwordIn h))
 
 unfoldable pub appendRefusal : ℕ → DescriptorNumbers → Handed → ℕ
 appendRefusal bytes d h = refusalIn (appendRules bytes d h)

@@ -2,12 +2,14 @@
 use Prim.Native.Nat.{ℕ, _+_, _*_, _-_}
 use mathlib.Core.Bool.{cond}
 use mathlib.Core.List.{List, [], _∷_, _++_}
+use lib.Dec.{eqb}
 use lib.IntN.{ℤ}
 use lib.ListN.{length}
 use Rattle.image.specs.Image.{zeros}
 use Rattle.image.specs.Writes.{Write, put, writes}
 use Rattle.words.specs.Word.{numeral, integer4, integer8, signedNumeral}
 use Rattle.geometry.specs.declared.units.RecordNumber.{RecordNumber}
+use Rattle.geometry.specs.declared.units.EntryNumber.{EntryNumber}
 use Rattle.geometry.specs.declared.units.Place.{Place}
 use Rattle.geometry.specs.Units.{placeOf, offsetOf}
 use Rattle.descriptor.specs.declared.numbers.DescriptorNumbers.{DescriptorNumbers}
@@ -15,8 +17,9 @@ use Rattle.descriptor.specs.FirstRecord.{freeOf}
 use Rattle.entry.specs.EntryDescriptor.{wordOffset, entryCode}
 use Rattle.entry.specs.Contents.{firstContent}
 use Rattle.entry.specs.Opening.{slotPositionOf}
+use Rattle.writer.specs.declared.storing.Head.{Head}
 use Rattle.writer.specs.Creation.{field, countWrites}
-use Rattle.writer.specs.Handed.{Handed, wordsOf, sumOf, nsecIn, ldataIn, nwordIn, adataIn}
+use Rattle.writer.specs.Handed.{Handed, wordsOf, sumOf, nsecIn, ldataIn, nwordIn}
 use Rattle.writer.specs.Placing.{full, newArea, entryStart, numbersAfter, addressesAfter}
 
 -- the identifiers as Integer*4 each, the lengths as Integer*8
@@ -41,16 +44,30 @@ areaWrites d =
     field (15 + 2 * d .nex) (numeral 8 (newArea d .0)) ∷
     []
 
+-- the numbers in an entry's words 2 to 11: of so many sections, words of sections and words of data. adata is 0 without data
+unfoldable pub headFrom : ℤ → ℕ → ℕ → ℕ → EntryNumber → Head
+headFrom version nsec words ldata number = record {
+  version = version;
+  nsec = nsec;
+  nword = 11 + 5 * nsec + words + ldata;
+  adata = cond (eqb ldata 0) 0 (firstContent nsec + words);
+  ldata = ldata;
+  xnum = number;
+}
+
+abbrev pub headOf : Handed → EntryNumber → Head
+headOf h number = headFrom (h .version) (nsecIn h) (sumOf (h .lengths)) (ldataIn h) number
+
 -- words 1 to 11 of the entry that starts at a position
-abbrev pub headWrites : ℕ → ℤ → ℕ → ℕ → ℕ → ℕ → ℕ → List Write
-headWrites start version nsec nword adata ldata xnum =
+abbrev pub headWrites : ℕ → Head → List Write
+headWrites start head =
     put (wordOffset start 1) entryCode ∷
-    put (wordOffset start 2) (signedNumeral integer4 version) ∷
-    put (wordOffset start 3) (numeral 4 nsec) ∷
-    put (wordOffset start 4) (numeral 8 nword) ∷
-    put (wordOffset start 6) (numeral 8 adata) ∷
-    put (wordOffset start 8) (numeral 8 ldata) ∷
-    put (wordOffset start 10) (numeral 8 xnum) ∷
+    put (wordOffset start 2) (signedNumeral integer4 (head .version)) ∷
+    put (wordOffset start 3) (numeral 4 (head .nsec)) ∷
+    put (wordOffset start 4) (numeral 8 (head .nword)) ∷
+    put (wordOffset start 6) (numeral 8 (head .adata)) ∷
+    put (wordOffset start 8) (numeral 8 (head .ldata)) ∷
+    put (wordOffset start 10) (numeral 8 (head .xnum .0)) ∷
     []
 
 -- its tables
@@ -85,10 +102,7 @@ areaWritten file d = cond (full d) (writes file (areaWrites d)) file
 unfoldable pub entryWritten : List ℕ → DescriptorNumbers → Handed → List ℕ
 entryWritten file d h =
     let start = entryStart d in
-    writes (writes (writes file
-    (headWrites start (h .version) (nsecIn h) (nwordIn h) (adataIn h) (ldataIn h) (d .xnext .0)))
-    (tableWrites start (h .ids) (h .lengths)))
-    (contentWrites start h)
+    writes (writes (writes file (headWrites start (headOf h (d .xnext)))) (tableWrites start (h .ids) (h .lengths))) (contentWrites start h)
 
 -- the file after its index and the counts
 unfoldable pub indexWritten : List ℕ → DescriptorNumbers → List RecordNumber → Handed → List ℕ

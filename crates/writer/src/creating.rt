@@ -4,7 +4,7 @@ use super::fields::put_growth;
 use super::fields::put_settings;
 use descriptor::DescriptorNumbers;
 use descriptor::Settings;
-use descriptor::inner::setting_refusal;
+use descriptor::setting_refusal;
 ghost use mathlib.Core.Path.{_≡_};
 ghost use Prim.Native.Nat.{_*_, _≤_};
 ghost use lib.ListN.{length};

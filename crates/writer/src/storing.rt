@@ -14,19 +14,20 @@ use geometry::Place;
 use geometry::byte_offset;
 use geometry::entry_position;
 ghost use mathlib.Core.Path.{_≡_};
-ghost use mathlib.Core.Bool.{true};
+ghost use mathlib.Core.Bool.{true, cond};
 ghost use Prim.Native.Nat.{_+_, _*_, _^_, _≤_, _<_};
 ghost use lib.ListN.{length};
-ghost use lib.IntN.{pos};
+ghost use lib.Dec.{eqb};
 ghost use Rattle.image.specs.Image.{splice};
 ghost use Rattle.image.specs.Writes.{writes};
 ghost use Rattle.words.specs.Word.{numeral};
 ghost use Rattle.descriptor.specs.FirstRecord.{freeOf};
 ghost use Rattle.descriptor.specs.Bounds.{Settled, Free};
 ghost use Rattle.entry.specs.EntryDescriptor.{wordOffset};
-ghost use Rattle.writer.specs.Handed.{handedIn, sumOf, positive};
+ghost use Rattle.entry.specs.Contents.{firstContent};
+ghost use Rattle.writer.specs.Handed.{sumOf, positive};
 ghost use Rattle.writer.specs.Placing.{full, entryStart};
-ghost use Rattle.writer.specs.Writing.{areaWritten, headWrites, tableWrites, contentWrites, slotWrites};
+ghost use Rattle.writer.specs.Writing.{areaWritten, headFrom, headWrites, tableWrites, slotWrites};
 ghost use Rattle.writer.specs.Bounds.{Extensible};
 
 // The numbers in the words 2 to 11 of an entry.
@@ -37,6 +38,38 @@ pub struct Head {
     pub adata: u64,
     pub ldata: u64,
     pub xnum: EntryNumber,
+}
+
+// The address of the data behind sections of so many words, 0 without data.
+fn adata_of(nsec: u64, section_words: u64, ldata: u64) -> u64
+    requires { ⌜ (nsec ≤ 64) × («section_words» < 2 ^ 62) ⌝ }
+    ensures { λ r. ⌜ r ≡ cond (eqb ldata 0) 0 (firstContent nsec + «section_words») ⌝ }
+{
+    if ldata == 0 {
+        return 0;
+    }
+    12 + 5 * nsec + section_words
+}
+
+// The head of an entry with so many sections, words of sections and words of data.
+pub(crate) fn head_of(
+    version: i32,
+    nsec: u64,
+    section_words: u64,
+    ldata: u64,
+    number: EntryNumber,
+) -> Head
+    requires { ⌜ (nsec ≤ 64) × («section_words» < 2 ^ 62) × (ldata < 2 ^ 62) ⌝ }
+    ensures { λ r. ⌜ r ≡ headFrom version nsec «section_words» ldata number ⌝ }
+{
+    Head {
+        version,
+        nsec,
+        nword: 11 + 5 * nsec + section_words + ldata,
+        adata: adata_of(nsec, section_words, ldata),
+        ldata,
+        xnum: number,
+    }
 }
 
 // Makes the new index area, where one is needed: zeros from the next free position to the entry at
@@ -69,7 +102,7 @@ fn put_word8(file: &mut [u8], start: u64, address: u64, bits: u64)
 // Writes words 1 to 11 of the entry.
 pub(crate) fn put_head(file: &mut [u8], start: u64, head: Head)
     requires { ⌜ (start < 2 ^ 31) × (4 * (start + 11) ≤ length (now file)) × (head .nsec ≤ 64) ⌝ }
-    ensures { λ _. ⌜ now (file .exit) ≡ writes (now (file .entry)) (headWrites start (head .version) (head .nsec) (head .nword) (head .adata) (head .ldata) (head .xnum .0)) ⌝ }
+    ensures { λ _. ⌜ now (file .exit) ≡ writes (now (file .entry)) (headWrites start head) ⌝ }
 {
     let code = [0x32u8, 0x20u8, 0x20u8, 0x20u8];
     image::put(

@@ -8,14 +8,13 @@ use geometry::byte_offset;
 use geometry::capacity;
 ghost use mathlib.Core.Path.{_≡_};
 ghost use mathlib.Core.Bool.{true};
-ghost use Prim.Native.Nat.{_+_, _^_, _≤_, _<_};
+ghost use Prim.Native.Nat.{_^_, _≤_, _<_};
 ghost use lib.ListN.{length};
 ghost use lib.Dec.{eqb};
-ghost use lib.IntN.{pos};
 ghost use Rattle.geometry.specs.Units.{offsetOf};
 ghost use Rattle.descriptor.specs.FirstRecord.{freeOf};
 ghost use Rattle.descriptor.specs.Bounds.{Settled, Free};
-ghost use Rattle.writer.specs.Handed.{absent, distinct, positive, sumOf, handedIn};
+ghost use Rattle.writer.specs.Handed.{absent, distinct, positive, sumOf};
 ghost use Rattle.writer.specs.Placing.{full};
 ghost use Rattle.writer.specs.Rules.{handedRefusal, extensionRefusal, spaceRefusal};
 ghost use Rattle.writer.specs.Bounds.{Extensible};
@@ -96,7 +95,7 @@ pub(crate) fn handed_refusal(
     values: &[u8],
 ) -> u32
     requires { ⌜ Settled d ⌝ }
-    ensures { λ r. ⌜ r ≡ handedRefusal d (handedIn (pos 0) (now (index .entry)) (now (ids .entry)) (now (lengths .entry)) (now (sections .entry)) (now (values .entry))) ⌝ }
+    ensures { λ r. ⌜ r ≡ handedRefusal d (now (index .entry)) (now (ids .entry)) (now (lengths .entry)) (now (sections .entry)) (now (values .entry)) ⌝ }
 {
     if index.len() != byte_offset(d.lind - 3) {
         return 21;

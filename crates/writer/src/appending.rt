@@ -1,0 +1,57 @@
+// Appending an entry to a file.
+use super::inner::append_from;
+use descriptor::Validated;
+use descriptor::refusal_of;
+use descriptor::validate;
+use geometry::EntryNumber;
+ghost use mathlib.Core.Path.{_≡_};
+ghost use Rattle.writer.specs.Handed.{handedIn};
+ghost use Rattle.writer.specs.Answers.{appendOf, fileAfter};
+
+// The answer of `append`: the refusal, 0 when accepted, and the new entry's number, 0 when refused.
+pub struct Appended {
+    pub refusal: u32,
+    pub number: EntryNumber,
+}
+
+// Appends an entry: its version, the application's index words, its sections by identifiers, lengths
+// and bytes one after another, and its data. Refuses by the first rule of 1 to 11 or 21 to 24 that is
+// broken, and then changes no byte.
+pub fn append(
+    file: &mut [u8],
+    version: i32,
+    index: &[u8],
+    ids: &[i32],
+    lengths: &[i64],
+    sections: &[u8],
+    values: &[u8],
+) -> Appended
+    ensures answer { λ r. ⌜ r ≡ appendOf (now (file .entry)) (handedIn version (now (index .entry)) (now (ids .entry)) (now (lengths .entry)) (now (sections .entry)) (now (values .entry))) ⌝ }
+    ensures bytes { λ r. ⌜ now (file .exit) ≡ fileAfter (now (file .entry)) (handedIn version (now (index .entry)) (now (ids .entry)) (now (lengths .entry)) (now (sections .entry)) (now (values .entry))) ⌝ }
+{
+    let validation = validate(file);
+    let case = validation.numbers;
+    let Validated::Numbers(d) = case else {
+        return Appended {
+            refusal: refusal_of(case),
+            number: EntryNumber(0),
+        };
+    };
+    let addresses = validation.addresses;
+    let appended = append_from(
+        d,
+        addresses,
+        file,
+        version,
+        index,
+        ids,
+        lengths,
+        sections,
+        values,
+    );
+    let number = appended.number;
+    Appended {
+        refusal: appended.refusal,
+        number,
+    }
+}
