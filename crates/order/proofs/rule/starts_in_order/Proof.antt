@@ -1,26 +1,41 @@
+-- `order::rule::starts_in_order` meets its contract. Assumes nothing.
+use Prim.Native.Nat.{ℕ, _*_, _-_, _^_, _≤_}
+use mathlib.Core.Path.{_≡_, sym}
+use native.Mathlib.Omega.{arith}
+use native.Mathlib.Nat.{mul-le-mul-left}
+use borrow.Author.Tests.{eq-eqb, ne-eqb}
+use Rattle.descriptor.specs.Rules.{areaAfter}
+use Rattle.descriptor.proofs.AreaOrder.{after-low, area-ends}
+use Rattle.order.specs.Order.{startsInOrder}
 use borrow.Author.Needs.{needs}
 use Rattle.order.proofs.rule.starts_in_order.Statement.{statement}
 use Rattle.order.proofs.rule.starts_in_order.Tie as tie
-use Rattle.order.proofs.rule.starts_in_order.Reads as reads
-use Rattle.order.proofs.rule.starts_in_order.Lts as lts
-use Rattle.descriptor.proofs.inner.area_after.Reads as area-after-reads
-use Rattle.geometry.proofs.position.Reads as position-reads
 
--- src/rule.rt:31:34
 area-after-requires : tie.Need-area-after-requires
 area-after-requires c κs = search needs
 
--- src/rule.rt:32:16
 position-requires : tie.Need-position-requires
-position-requires c κs = ?
+position-requires c κs =
+    let s = c .before .before .before in
+    let k = s .args .slot .extension .0 in
+    let a = s .pre .0 in
+    let some : 1 ≤ s .args .d .reclen = omega (arith, a .settled .reclen-low) in
+    let low = after-low (s .args .d) (s .args .addresses) k (s .args .d .nex) (s .pre .2) (a .started) in
+    let high = area-ends (s .args .bytes) (s .args .d) (s .args .addresses) a k (s .pre .2) in
+    rw (c .area-after .ensures)
+    (omega arith, omega (arith, a .room, a .lent .high, mul-le-mul-left (areaAfter (s .args .d) (s .args .addresses) k - 1) some), omega arith, omega arith, a .settled .reclen-high)
 
--- src/rule.rt:32:9
 returns : tie.Need-returns
-returns c = ?
+unfolding startsInOrder
+returns c =
+    let a = c .before .before .before .before .args in
+    rw (eq-eqb (a .slot .place) 1 (c .before .before .if1 .taken), c .position .ensures, c .before .area-after .ensures)
 
--- src/rule.rt:19:1
 returns-2 : tie.Need-returns-2
-returns-2 c = ?
+unfolding startsInOrder
+returns-2 c =
+    let a = c .before .before .args in
+    rw (ne-eqb (a .slot .place) 1 (c .if1 .left))
 
 pub starts-in-order-spec : {M : Type 1} → statement M
 starts-in-order-spec = tie.close (tie.spec area-after-requires position-requires returns returns-2)

@@ -1,0 +1,2 @@
+-- The laws of `order` that later layers cite.
+pub mod Checks
