@@ -8,6 +8,7 @@ use borrow.Author.Tests.{leb-true, eqb-true}
 use lib.Dec.{leb, eqb}
 use lib.ListN.{length}
 use Rattle.words.specs.Code.{sameBytes}
+use Rattle.words.proofs.Table.{length-places}
 use Rattle.geometry.specs.declared.units.ExtensionNumber.{ExtensionNumber}
 use Rattle.descriptor.specs.declared.numbers.DescriptorNumbers.{DescriptorNumbers}
 use Rattle.descriptor.specs.declared.validating.Validated.{Validated}
@@ -55,9 +56,15 @@ module _ (file : List ℕ) where
       let b = hold-split settings filling (a .1 .1) in
       (leb-true 64 (length file) (a .0), a .1 .0, refusal-none settings (b .0), refusal-none filling (b .1))
 
+  pub length-addresses : (nex : ℕ) → length (addressesOf file nex) ≡ 16
+  unfolding addressesOf
+  length-addresses nex = length-places 16 nex _ _
+
   -- so its numbers and addresses are admitted
   pub file-admitted : fileRefusal file ≡ 0 → Admitted (length file) d (addressesOf file (d .nex))
-  file-admitted e = let p = file-passed e in admitted (length file) d (addressesOf file (d .nex)) (p .0) (p .2) (p .3)
+  file-admitted e =
+      let p = file-passed e in
+      admitted (length file) d (addressesOf file (d .nex)) (length-addresses (d .nex)) (p .0) (p .2) (p .3)
 
   -- the answer of `validate`, in its two cases
   pub answer-numbers : fileRefusal file ≡ 0 → validationOf file ≡ record { refusal = 0; numbers = Numbers d; addresses = addressesOf file (d .nex) }

@@ -8,6 +8,7 @@ use native.Mathlib.Nat.{mul-le-mul-left, mod-eq-of-lt, lt-of-not-le}
 use native.Mathlib.Decide.{decLe}
 use borrow.Author.Tests.{leb-true, eqb-true}
 use lib.Dec.{leb}
+use lib.ListN.{length}
 use mir.Syntax.{w32, w64}
 use Rattle.words.specs.Word.{signedOf}
 use Rattle.words.specs.Range.{within, atLeast}
@@ -100,8 +101,8 @@ module _ (bytes : ℕ) (d : DescriptorNumbers) (addresses : List RecordNumber) w
   unfolding fillingRefusal
   filling-rows e = all-hold (fillingRules bytes d addresses) (omega arith) e
 
-  pub admitted : 64 ≤ bytes → settingRefusal bytes d ≡ 0 → fillingRefusal bytes d addresses ≡ 0 → Admitted bytes d addresses
-  admitted h e f =
+  pub admitted : length addresses ≡ 16 → 64 ≤ bytes → settingRefusal bytes d ≡ 0 → fillingRefusal bytes d addresses ≡ 0 → Admitted bytes d addresses
+  admitted t h e f =
       let a = filling-rows f in
       let s = settled bytes d e in
       let l = lent bytes d e h in
@@ -114,4 +115,5 @@ module _ (bytes : ℕ) (d : DescriptorNumbers) (addresses : List RecordNumber) w
         room = leb-true (freeOf d) (bytes / 4) (a .1 .1 .1 .1 .0);
         started = a .1 .1 .1 .1 .1 .0;
         ended = a .1 .1 .1 .1 .1 .1 .0;
+        table = t;
       }

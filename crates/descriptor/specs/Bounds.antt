@@ -3,6 +3,7 @@ use Prim.Native.Nat.{ℕ, _+_, _*_, _/_, _%_, _^_, _≤_}
 use mathlib.Core.Path.{_≡_}
 use mathlib.Core.Bool.{true, false}
 use mathlib.Core.List.{List}
+use lib.ListN.{length}
 use Rattle.geometry.specs.declared.units.RecordNumber.{RecordNumber}
 use Rattle.geometry.specs.Units.{entriesBefore}
 use Rattle.geometry.specs.Growth.{overOf}
@@ -47,3 +48,4 @@ pub record Admitted (bytes : ℕ) (d : DescriptorNumbers) (addresses : List Reco
   pub room : freeOf d ≤ bytes / 4
   pub started : areasStart d addresses (d .nex) ≡ true
   pub ended : areasEnd d addresses ≡ true
+  pub table : length addresses ≡ 16

@@ -1,0 +1,253 @@
+-- The numbers and addresses after an accepted append are admitted again. Assumes nothing.
+use Prim.Native.Nat.{ℕ, zero, suc, _+_, _*_, _-_, _/_, _%_, _^_, _≤_, _<_}
+use mathlib.Core.Path.{_≡_, refl, sym, ap, ap₂, _∙_}
+use mathlib.Core.Bool.{Bool, true, false, cond, _&&_}
+use mathlib.Core.List.{List}
+use native.Mathlib.Omega.{arith}
+use native.Mathlib.Nat.{mul-le-mul-left, mul-le-mul-right, le-of-mul-le-mul-right}
+use native.Mathlib.Numerals.{add-one}
+use borrow.Author.Tests.{leb-true, le-leb, lt-ltb, le-ltb, eqb-true, eqb-false, eq-eqb}
+use lib.Dec.{leb, ltb, eqb}
+use lib.ListN.{length, getD, set, length-set}
+use lib.Seq.{getD-set-same, getD-set-other}
+use mir.Syntax.{w64}
+use Rattle.words.specs.Word.{signedOf}
+use Rattle.words.specs.Range.{atLeast}
+use Rattle.words.proofs.Ranges.{atLeast-bits}
+use Rattle.words.proofs.Runs.{run-next, run-fewer}
+use Rattle.geometry.specs.declared.units.RecordNumber.{RecordNumber}
+use Rattle.geometry.specs.declared.growth.Growth.{Growth}
+use Rattle.geometry.specs.Units.{positionOf, placeOf, entriesBefore}
+use Rattle.geometry.specs.Growth.{capacityOf, totalOf, overOf}
+use Rattle.geometry.specs.Area.{recordsFor, areaRecords}
+use Rattle.geometry.proofs.Positions.{position-place, place-word}
+use Rattle.geometry.proofs.Capacities.{over-next, total-none, total-next, capacity-some}
+use Rattle.geometry.proofs.Slots.{records-hold, records-least}
+use Rattle.descriptor.specs.declared.numbers.DescriptorNumbers.{DescriptorNumbers}
+use Rattle.descriptor.specs.FirstRecord.{aexOf, mexOf, growthIn, freeOf}
+use Rattle.descriptor.specs.Rules.{entriesFit, areaAfter, areasStart, areasEnd}
+use Rattle.descriptor.specs.Bounds.{Settled, Lent, Free, Admitted}
+use Rattle.descriptor.proofs.Passed.{mex-high}
+use Rattle.descriptor.proofs.Fitting.{fit-none, fit-some, fit-reach, fit-full}
+use Rattle.descriptor.proofs.AreaOrder.{after-none, after-next, starts-run, area-ends, after-low}
+use Rattle.writer.specs.Placing.{full, newArea, afterNewArea, entryStart, nexAfter, numbersAfter, addressesAfter}
+use Rattle.writer.specs.Bounds.{Extensible}
+
+-- ---- what an append does not change
+
+module _ (d : DescriptorNumbers) (end : ℕ) where
+  after-same : (addresses : List RecordNumber) (k : ℕ) → areaAfter (numbersAfter d end) addresses k ≡ areaAfter d addresses k
+  unfolding numbersAfter areaAfter
+  after-same addresses zero = refl
+  after-same addresses (suc k) = refl
+
+  starts-same : (addresses : List RecordNumber) (k : ℕ) → areasStart (numbersAfter d end) addresses k ≡ areasStart d addresses k
+  unfolding numbersAfter areasStart
+  starts-same addresses zero = refl
+  starts-same addresses (suc k) =
+      ap₂ (λ (a : Bool) (n : ℕ). a && atLeast n (signedOf w64 (aexOf addresses (suc k) .0))) (starts-same addresses k) (after-same addresses k)
+
+-- the areas of the first k addresses look at no other address
+module _ (d : DescriptorNumbers) (xs ys : List RecordNumber) where
+  after-agree : (k : ℕ) → (1 ≤ k → aexOf xs k ≡ aexOf ys k) → areaAfter d xs k ≡ areaAfter d ys k
+  unfolding areaAfter
+  after-agree zero e = refl
+  after-agree (suc k) e = ap (λ (r : RecordNumber). r .0 + areaRecords (capacityOf (growthIn d) (suc k)) (d .lind) (d .reclen)) (e (omega arith))
+
+  starts-agree : (k : ℕ) → ((j : ℕ) → 1 ≤ j → j ≤ k → aexOf xs j ≡ aexOf ys j) → areasStart d xs k ≡ areasStart d ys k
+  unfolding areasStart
+  starts-agree zero e = refl
+  starts-agree (suc k) e =
+      ap₂ (λ (a : Bool) (n : ℕ). a && atLeast n (signedOf w64 (aexOf xs (suc k) .0)))
+      (starts-agree k (λ j l h. e j l (omega arith))) (after-agree k (λ l. e k l (omega arith)))
+      ∙ ap (λ (r : RecordNumber). areasStart d ys k && atLeast (areaAfter d ys k) (signedOf w64 (r .0))) (e (suc k) (omega arith) (omega arith))
+
+-- ---- where things are put
+
+module _ (bytes : ℕ) (d : DescriptorNumbers) (addresses : List RecordNumber) (a : Admitted bytes d addresses) where
+  -- the areas in use end before the new one starts
+  pub new-area-low : areaAfter d addresses (d .nex) ≤ newArea d .0
+  unfolding newArea
+  new-area-low =
+      let some : 1 ≤ d .reclen = omega (arith, a .settled .reclen-low) in
+      let ends = area-ends bytes d addresses a (d .nex) (omega arith) in
+      let reach = records-hold (freeOf d) (d .reclen) some in
+      let less : (areaAfter d addresses (d .nex) - 1) * d .reclen ≤ recordsFor (freeOf d) (d .reclen) * d .reclen = omega arith in
+      omega (arith, le-of-mul-le-mul-right less some)
+
+  -- the new area starts at or after the next free position, and not far behind it
+  pub new-area-place : (freeOf d ≤ positionOf (d .reclen) (newArea d) (record { 0 = 1 })) × (newArea d .0 ≤ 2 ^ 28 + 1)
+  unfolding newArea positionOf
+  new-area-place =
+      let some : 1 ≤ d .reclen = omega (arith, a .settled .reclen-low) in
+      let q : recordsFor (freeOf d) (d .reclen) + 1 - 1 ≡ recordsFor (freeOf d) (d .reclen) = omega arith in
+      (rw q (omega (arith, records-hold (freeOf d) (d .reclen) some)),
+      omega (arith, a .room, a .lent .high, records-least (freeOf d) (d .reclen) (freeOf d) some (omega (arith, mul-le-mul-left (freeOf d) some))))
+
+  -- it is followed by the entry
+  pub after-new-area-low : positionOf (d .reclen) (newArea d) (record { 0 = 1 }) ≤ positionOf (d .reclen) (afterNewArea d) (record { 0 = 1 })
+  unfolding positionOf afterNewArea
+  after-new-area-low =
+      let less : newArea d .0 - 1 ≤ newArea d .0 + areaRecords (capacityOf (growthIn d) (d .nex + 1)) (d .lind) (d .reclen) - 1 = omega arith in
+      omega (arith, mul-le-mul-right (d .reclen) less)
+
+  -- the entry starts at or after the next free position
+  pub entry-start-low : freeOf d ≤ entryStart d
+  unfolding entryStart
+  entry-start-low = by (full d)
+    where
+      by : (b : Bool) → freeOf d ≤ cond b (positionOf (d .reclen) (afterNewArea d) (record { 0 = 1 })) (freeOf d)
+      by false = omega arith
+      by true = omega (arith, new-area-place .0, after-new-area-low)
+
+-- the extensions in use after an append
+pub nex-full : (d : DescriptorNumbers) → full d ≡ true → nexAfter d ≡ d .nex + 1
+unfolding nexAfter
+nex-full d q = rw q
+
+pub nex-kept : (d : DescriptorNumbers) → full d ≡ false → nexAfter d ≡ d .nex
+unfolding nexAfter
+nex-kept d q = rw q
+
+-- where entries fit the extensions in use and do not fill them, there is one
+in-use : (g : Growth) (n k : ℕ) → entriesFit g k n ≡ true → (n ≡ totalOf g k → ⊥) → 1 ≤ k
+in-use g n zero e h = absurd (h (omega (arith, eqb-true n 0 (rw (fit-none g n) at e), total-none g)))
+in-use g n (suc k) e h = omega arith
+
+-- by whether the extensions in use are full
+either {ℓ} : {X : Type ℓ} (b : Bool) → (b ≡ true → X) → (b ≡ false → X) → X
+either true f g = f refl
+either false f g = g refl
+
+module _ (bytes : ℕ) (d : DescriptorNumbers) (addresses : List RecordNumber) (a : Admitted bytes d addresses) (x : Extensible d) where
+  nex-high : nexAfter d ≤ 16
+  nex-high =
+      either (full d)
+      (λ q. rw (nex-full d q) (omega (arith, x .room q, mex-high (d .reclen))))
+      (λ q. rw (nex-kept d q) (a .settled .nex-high))
+
+  nex-room : 14 + 2 * nexAfter d ≤ d .reclen
+  unfolding mexOf
+  nex-room =
+      either (full d)
+      (λ q. rw (nex-full d q) (omega (arith, x .room q, a .settled .reclen-low)))
+      (λ q. rw (nex-kept d q) (a .settled .nex-room))
+
+  nex-within : overOf (growthIn d) (nexAfter d) ≡ false
+  nex-within =
+      either (full d)
+      (λ q. rw (nex-full d q) (over-next (growthIn d) (d .nex) (a .settled .within) ∙ le-ltb 16384 (capacityOf (growthIn d) (d .nex + 1)) (x .within q)))
+      (λ q. rw (nex-kept d q) (a .settled .within))
+
+  -- one entry more fits
+  nex-fit : entriesFit (growthIn d) (nexAfter d) (d .xnext .0) ≡ true
+  unfolding full
+  nex-fit = either (full d) at-full at-room
+    where
+      g : Growth
+      g = growthIn d
+      n : ℕ
+      n = entriesBefore (d .xnext)
+      at-full : full d ≡ true → entriesFit (growthIn d) (nexAfter d) (d .xnext .0) ≡ true
+      at-full q =
+          let all = eqb-true n (totalOf g (d .nex)) q in
+          let last : d .nex + 1 - 1 ≡ d .nex = omega arith in
+          let more = capacity-some g (a .settled .lex1-low) (a .settled .gex-low) (d .nex + 1) (omega arith) in
+          rw (nex-full d q, fit-some g (d .xnext .0) (d .nex + 1) (omega arith), last)
+          (rw (le-leb (d .xnext .0) (totalOf g (d .nex + 1)) (omega (arith, a .counted, total-next g (d .nex))), lt-ltb (totalOf g (d .nex)) (d .xnext .0) (omega (arith, a .counted))))
+      at-room : full d ≡ false → entriesFit (growthIn d) (nexAfter d) (d .xnext .0) ≡ true
+      at-room q =
+          let less = fit-reach g n (d .nex) (a .fit) in
+          let other = eqb-false n (totalOf g (d .nex)) q in
+          let used = in-use g n (d .nex) (a .fit) other in
+          rw (nex-kept d q, fit-some g (d .xnext .0) (d .nex) used)
+          (rw (le-leb (d .xnext .0) (totalOf g (d .nex)) (omega (arith, a .counted)), lt-ltb (totalOf g (d .nex - 1)) (d .xnext .0) (omega (arith, fit-full g n (d .nex) used (a .fit)))))
+
+  -- the areas keep their order: those in use, and the new one behind them
+  addresses-kept : (k : ℕ) → 1 ≤ k → k ≤ d .nex → aexOf (addressesAfter d addresses) k ≡ aexOf addresses k
+  unfolding addressesAfter
+  addresses-kept k h l =
+      either (full d)
+      (λ q. rw q (getD-set-other addresses (d .nex) (k - 1) (newArea d) (record { 0 = 0 }) (λ (e : k - 1 ≡ d .nex). omega arith)))
+      (λ q. rw q)
+
+  address-new : full d ≡ true → aexOf (addressesAfter d addresses) (d .nex + 1) ≡ newArea d
+  unfolding addressesAfter
+  address-new q =
+      let e : d .nex + 1 - 1 ≡ d .nex = omega arith in
+      rw (q, e) (getD-set-same addresses (d .nex) (newArea d) (record { 0 = 0 }) (omega (arith, a .table, x .room q, mex-high (d .reclen))))
+
+  addresses-long : length (addressesAfter d addresses) ≡ 16
+  unfolding addressesAfter
+  addresses-long =
+      either (full d)
+      (λ q. rw q (length-set addresses (d .nex) (newArea d) ∙ a .table))
+      (λ q. rw q (a .table))
+
+  starts-kept : areasStart d (addressesAfter d addresses) (d .nex) ≡ true
+  starts-kept = starts-agree d (addressesAfter d addresses) addresses (d .nex) (λ j h l. addresses-kept j h l) ∙ a .started
+
+  after-kept : areaAfter d (addressesAfter d addresses) (d .nex) ≡ areaAfter d addresses (d .nex)
+  after-kept = after-agree d (addressesAfter d addresses) addresses (d .nex) (λ h. addresses-kept (d .nex) h (omega arith))
+
+  starts-after : areasStart d (addressesAfter d addresses) (nexAfter d) ≡ true
+  starts-after =
+      either (full d)
+      (λ q. rw (nex-full d q)
+        (run-next (starts-run d (addressesAfter d addresses)) (d .nex) starts-kept
+        ∙ rw (after-kept, address-new q, atLeast-bits w64 (areaAfter d addresses (d .nex)) (newArea d .0),
+        le-leb (areaAfter d addresses (d .nex)) (newArea d .0) (new-area-low bytes d addresses a), lt-ltb (newArea d .0) (2 ^ 63) (omega (arith, new-area-place bytes d addresses a .1)))))
+      (λ q. rw (nex-kept d q) starts-kept)
+
+  -- the last area ends before the entry
+  area-ends-after : positionOf (d .reclen) (record { 0 = areaAfter d (addressesAfter d addresses) (nexAfter d) }) (record { 0 = 1 }) ≤ entryStart d
+  area-ends-after = either (full d) at-full at-room
+    where
+      at-full : full d ≡ true → positionOf (d .reclen) (record { 0 = areaAfter d (addressesAfter d addresses) (nexAfter d) }) (record { 0 = 1 }) ≤ entryStart d
+      at-full q = ?
+      at-room : full d ≡ false → positionOf (d .reclen) (record { 0 = areaAfter d (addressesAfter d addresses) (nexAfter d) }) (record { 0 = 1 }) ≤ entryStart d
+      at-room q = ?
+
+  -- ---- the numbers after an append whose entry ends within the bytes lent
+
+  module _ (end : ℕ) (low : entryStart d ≤ end) (high : end ≤ bytes / 4) where
+    pub free-after : freeOf (numbersAfter d end) ≡ end
+    unfolding numbersAfter
+    free-after = position-place (d .reclen) end
+
+    settled-after : Settled (numbersAfter d end)
+    unfolding numbersAfter
+    settled-after = record {
+      reclen-low = a .settled .reclen-low;
+      reclen-high = a .settled .reclen-high;
+      lind-low = a .settled .lind-low;
+      lind-high = a .settled .lind-high;
+      lex1-low = a .settled .lex1-low;
+      lex1-high = a .settled .lex1-high;
+      gex-low = a .settled .gex-low;
+      gex-high = a .settled .gex-high;
+      nex-high = nex-high;
+      nex-room = nex-room;
+      within = nex-within;
+    }
+
+    lent-after : Lent bytes (numbersAfter d end)
+    unfolding numbersAfter
+    lent-after = record { high = a .lent .high; whole = a .lent .whole; first = a .lent .first }
+
+    place-after : Free (numbersAfter d end)
+    unfolding numbersAfter placeOf
+    place-after = ?
+
+    pub kept : Admitted bytes (numbersAfter d end) (addressesAfter d addresses)
+    kept = record {
+      settled = settled-after;
+      lent = lent-after;
+      counted = ?;
+      fit = ?;
+      free = place-after;
+      room = rw free-after high;
+      started = ?;
+      ended = ?;
+      table = addresses-long;
+    }
