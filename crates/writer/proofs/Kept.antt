@@ -4,7 +4,7 @@ use mathlib.Core.Path.{_≡_, refl, sym, ap, ap₂, _∙_}
 use mathlib.Core.Bool.{Bool, true, false, cond, _&&_}
 use mathlib.Core.List.{List}
 use native.Mathlib.Omega.{arith}
-use native.Mathlib.Nat.{mul-le-mul-left, mul-le-mul-right, le-of-mul-le-mul-right}
+use native.Mathlib.Nat.{le-div-iff-mul-le, div-le-self, mul-le-mul-left, mul-le-mul-right, le-of-mul-le-mul-right}
 use native.Mathlib.Numerals.{add-one}
 use borrow.Author.Tests.{leb-true, le-leb, lt-ltb, le-ltb, eqb-true, eqb-false, eq-eqb}
 use lib.Dec.{leb, ltb, eqb}
@@ -80,9 +80,10 @@ module _ (bytes : ℕ) (d : DescriptorNumbers) (addresses : List RecordNumber) (
   unfolding newArea positionOf
   new-area-place =
       let some : 1 ≤ d .reclen = omega (arith, a .settled .reclen-low) in
-      let q : recordsFor (freeOf d) (d .reclen) + 1 - 1 ≡ recordsFor (freeOf d) (d .reclen) = omega arith in
-      (rw q (omega (arith, records-hold (freeOf d) (d .reclen) some)),
-      omega (arith, a .room, a .lent .high, records-least (freeOf d) (d .reclen) (freeOf d) some (omega (arith, mul-le-mul-left (freeOf d) some))))
+      let q : recordsFor (freeOf d) (d .reclen) + 1 - 1 ≡ recordsFor (freeOf d) (d .reclen) = omega arith in (
+        rw q (omega (arith, records-hold (freeOf d) (d .reclen) some)),
+        omega (arith, a .room, a .lent .high, records-least (freeOf d) (d .reclen) (freeOf d) some (omega (arith, mul-le-mul-left (freeOf d) some))),
+      )
 
   -- it is followed by the entry
   pub after-new-area-low : positionOf (d .reclen) (newArea d) (record { 0 = 1 }) ≤ positionOf (d .reclen) (afterNewArea d) (record { 0 = 1 })
@@ -146,8 +147,10 @@ module _ (bytes : ℕ) (d : DescriptorNumbers) (addresses : List RecordNumber) (
     where
       g : Growth
       g = growthIn d
+
       n : ℕ
       n = entriesBefore (d .xnext)
+
       at-full : full d ≡ true → entriesFit (growthIn d) (nexAfter d) (d .xnext .0) ≡ true
       at-full q =
           let all = eqb-true n (totalOf g (d .nex)) q in
@@ -155,6 +158,7 @@ module _ (bytes : ℕ) (d : DescriptorNumbers) (addresses : List RecordNumber) (
           let more = capacity-some g (a .settled .lex1-low) (a .settled .gex-low) (d .nex + 1) (omega arith) in
           rw (nex-full d q, fit-some g (d .xnext .0) (d .nex + 1) (omega arith), last)
           (rw (le-leb (d .xnext .0) (totalOf g (d .nex + 1)) (omega (arith, a .counted, total-next g (d .nex))), lt-ltb (totalOf g (d .nex)) (d .xnext .0) (omega (arith, a .counted))))
+
       at-room : full d ≡ false → entriesFit (growthIn d) (nexAfter d) (d .xnext .0) ≡ true
       at-room q =
           let less = fit-reach g n (d .nex) (a .fit) in
@@ -194,19 +198,23 @@ module _ (bytes : ℕ) (d : DescriptorNumbers) (addresses : List RecordNumber) (
   starts-after =
       either (full d)
       (λ q. rw (nex-full d q)
-        (run-next (starts-run d (addressesAfter d addresses)) (d .nex) starts-kept
-        ∙ rw (after-kept, address-new q, atLeast-bits w64 (areaAfter d addresses (d .nex)) (newArea d .0),
-        le-leb (areaAfter d addresses (d .nex)) (newArea d .0) (new-area-low bytes d addresses a), lt-ltb (newArea d .0) (2 ^ 63) (omega (arith, new-area-place bytes d addresses a .1)))))
+      (run-next (starts-run d (addressesAfter d addresses)) (d .nex) starts-kept
+      ∙ rw (
+        after-kept,
+        address-new q,
+        atLeast-bits w64 (areaAfter d addresses (d .nex)) (newArea d .0),
+        le-leb (areaAfter d addresses (d .nex)) (newArea d .0) (new-area-low bytes d addresses a),
+        lt-ltb (newArea d .0) (2 ^ 63) (omega (arith, new-area-place bytes d addresses a .1)),
+      )))
       (λ q. rw (nex-kept d q) starts-kept)
 
   -- the last area ends before the entry
   area-ends-after : positionOf (d .reclen) (record { 0 = areaAfter d (addressesAfter d addresses) (nexAfter d) }) (record { 0 = 1 }) ≤ entryStart d
-  area-ends-after = either (full d) at-full at-room
-    where
-      at-full : full d ≡ true → positionOf (d .reclen) (record { 0 = areaAfter d (addressesAfter d addresses) (nexAfter d) }) (record { 0 = 1 }) ≤ entryStart d
-      at-full q = ?
-      at-room : full d ≡ false → positionOf (d .reclen) (record { 0 = areaAfter d (addressesAfter d addresses) (nexAfter d) }) (record { 0 = 1 }) ≤ entryStart d
-      at-room q = ?
+  unfolding entryStart afterNewArea positionOf
+  area-ends-after =
+      either (full d)
+      (λ q. rw (nex-full d q, after-next d (addressesAfter d addresses) (d .nex), address-new q, q) (omega arith))
+      (λ q. rw (nex-kept d q, after-kept, q) (omega (arith, area-ends bytes d addresses a (d .nex) (omega arith))))
 
   -- ---- the numbers after an append whose entry ends within the bytes lent
 
@@ -235,19 +243,59 @@ module _ (bytes : ℕ) (d : DescriptorNumbers) (addresses : List RecordNumber) (
     unfolding numbersAfter
     lent-after = record { high = a .lent .high; whole = a .lent .whole; first = a .lent .first }
 
+    -- the entry ends behind the first record
+    end-low : d .reclen ≤ end
+    unfolding positionOf
+    end-low =
+        let second : 1 ≤ d .nextrec .0 - 1 = omega (arith, a .free .record-low) in
+        let more = mul-le-mul-right (d .reclen) second in
+        omega (arith, entry-start-low bytes d addresses a)
+
     place-after : Free (numbersAfter d end)
     unfolding numbersAfter placeOf
-    place-after = ?
+    place-after =
+        let some : 1 ≤ d .reclen = omega (arith, a .settled .reclen-low) in
+        record {
+          record-low = omega (arith, le-div-iff-mul-le {k = d .reclen} {x = 1} {y = end} some .1 (omega (arith, end-low)));
+          record-high = omega (arith, div-le-self end (d .reclen), a .lent .high);
+          word-low = omega arith;
+          word-high = place-word (d .reclen) end some;
+        }
+
+    counted-after : 1 ≤ numbersAfter d end .xnext .0
+    unfolding numbersAfter
+    counted-after = omega arith
+
+    fit-after : entriesFit (growthIn (numbersAfter d end)) (numbersAfter d end .nex) (entriesBefore (numbersAfter d end .xnext)) ≡ true
+    unfolding numbersAfter
+    fit-after =
+        let e : d .xnext .0 + 1 - 1 ≡ d .xnext .0 = omega arith in
+        rw e nex-fit
+
+    starts-last : areasStart d (addressesAfter d addresses) (numbersAfter d end .nex) ≡ true
+    unfolding numbersAfter
+    starts-last = starts-after
+
+    started-after : areasStart (numbersAfter d end) (addressesAfter d addresses) (numbersAfter d end .nex) ≡ true
+    started-after = starts-same d end (addressesAfter d addresses) (numbersAfter d end .nex) ∙ starts-last
+
+    ends-last : positionOf (numbersAfter d end .reclen) (record { 0 = areaAfter d (addressesAfter d addresses) (numbersAfter d end .nex) }) (record { 0 = 1 }) ≤ end
+    unfolding numbersAfter
+    ends-last = omega (arith, area-ends-after)
+
+    ended-after : areasEnd (numbersAfter d end) (addressesAfter d addresses) ≡ true
+    unfolding areasEnd
+    ended-after = rw (after-same d end (addressesAfter d addresses) (numbersAfter d end .nex), free-after) (le-leb _ _ ends-last)
 
     pub kept : Admitted bytes (numbersAfter d end) (addressesAfter d addresses)
     kept = record {
       settled = settled-after;
       lent = lent-after;
-      counted = ?;
-      fit = ?;
+      counted = counted-after;
+      fit = fit-after;
       free = place-after;
       room = rw free-after high;
-      started = ?;
-      ended = ?;
+      started = started-after;
+      ended = ended-after;
       table = addresses-long;
     }
