@@ -1,1 +1,3 @@
+pub mod Created
+pub mod Places
 pub mod Kept

@@ -1,35 +1,38 @@
+-- `writer::creating::create` meets its contract: a refused creation writes nothing, and an accepted one the first record. Assumes nothing.
+use mathlib.Core.Path.{_≡_, sym, _∙_}
+use borrow.Author.Tests.{eq-eqb, ne-eqb}
+use lib.ListN.{length}
+use Rattle.writer.specs.Creation.{creationRefusal, createdFile}
+use Rattle.writer.proofs.Created.{created-fits}
 use borrow.Author.Needs.{needs}
 use Rattle.writer.proofs.creating.create.Statement.{statement}
 use Rattle.writer.proofs.creating.create.Tie as tie
-use Rattle.writer.proofs.creating.create.Reads as reads
-use Rattle.writer.proofs.creating.create.Lts as lts
-use Rattle.descriptor.proofs.numbers.DescriptorNumbers.new.Reads as new-reads
-use Rattle.writer.proofs.creating.creation_refusal.Reads as creation-refusal-reads
-use Rattle.writer.proofs.creating.put_first.Reads as put-first-reads
 
--- src/creating.rt:39:9
+none : (c : tie.Else1) → let s = c .before .before .before in creationRefusal (length (s .args .file .now)) (s .args .settings) ≡ 0
+none c = sym (c .before .creation-refusal .ensures) ∙ c .if1 .left
+
 creation-refusal-requires : tie.Need-creation-refusal-requires
 creation-refusal-requires c κs = search needs
 
--- src/creating.rt:41:9
 returns : tie.Need-returns
-returns c = ?
+unfolding createdFile
+returns c = let r = c .before .creation-refusal in (r .ensures, rw (← (r .ensures), ne-eqb (r .result) 0 (c .if1 .taken)))
 
--- src/creating.rt:43:21
 new-requires : tie.Need-new-requires
 new-requires c κs = search needs
 
--- src/creating.rt:43:5
 put-first-requires : tie.Need-put-first-requires
-put-first-requires c κs = ?
+put-first-requires c κs = rw (c .new .ensures) (created-fits _ _ (none (c .before .before)))
 
--- src/creating.rt:35:1
 same-length : tie.Need-same-length
 same-length c = search needs
 
--- src/creating.rt:35:1
 returns-2 : tie.Need-returns-2
-returns-2 c = ?
+unfolding createdFile
+returns-2 c =
+    let s = c .before .before .before .before .before .before .before .before in
+    let accepted = none (c .before .before .before .before .before) in
+    (sym accepted, rw (eq-eqb (creationRefusal (length (s .args .file .now)) (s .args .settings)) 0 accepted) (rw (c .before .before .before .new .ensures) at (c .before .before .put-first .ensures)))
 
 pub create-spec : {M : Type 1} → statement M
 create-spec =

@@ -1,26 +1,24 @@
+-- `writer::creating::creation_refusal` meets its contract: the first rule of the table, then those of the settings. Assumes nothing.
+use borrow.Author.Tests.{le-leb, lt-leb}
+use Rattle.descriptor.specs.Rules.{settingRefusal}
+use Rattle.writer.specs.Creation.{creationRefusal}
 use borrow.Author.Needs.{needs}
 use Rattle.writer.proofs.creating.creation_refusal.Statement.{statement}
 use Rattle.writer.proofs.creating.creation_refusal.Tie as tie
-use Rattle.writer.proofs.creating.creation_refusal.Reads as reads
-use Rattle.writer.proofs.creating.creation_refusal.Lts as lts
-use Rattle.descriptor.proofs.numbers.DescriptorNumbers.new.Reads as new-reads
-use Rattle.descriptor.proofs.setting_refusal.Reads as setting-refusal-reads
 
--- src/creating.rt:19:9
 returns : tie.Need-returns
-returns c = ?
+unfolding creationRefusal
+returns c = rw (lt-leb 64 (c .before .args .bytes) (c .if1 .taken))
 
--- src/creating.rt:21:28
 new-requires : tie.Need-new-requires
 new-requires c κs = search needs
 
--- src/creating.rt:21:5
 setting-refusal-requires : tie.Need-setting-refusal-requires
 setting-refusal-requires c κs = search needs
 
--- src/creating.rt:15:1
 returns-2 : tie.Need-returns-2
-returns-2 c = ?
+unfolding creationRefusal settingRefusal
+returns-2 c = rw (le-leb 64 (c .before .before .before .args .bytes) (c .before .before .if1 .left)) (rw (c .before .new .ensures) at (c .setting-refusal .ensures))
 
 pub creation-refusal-spec : {M : Type 1} → statement M
 creation-refusal-spec =

@@ -1,29 +1,31 @@
+-- `writer::placing::addresses_after` meets its contract. Assumes nothing.
+use mathlib.Core.Path.{_≡_, sym, _∙_}
+use mathlib.Core.Bool.{true}
+use Rattle.writer.specs.Placing.{full, addressesAfter}
+use Rattle.writer.proofs.Places.{nex-more}
 use borrow.Author.Needs.{needs}
 use Rattle.writer.proofs.placing.addresses_after.Statement.{statement}
 use Rattle.writer.proofs.placing.addresses_after.Tie as tie
-use Rattle.writer.proofs.placing.addresses_after.Reads as reads
-use Rattle.writer.proofs.placing.addresses_after.Lts as lts
-use Rattle.writer.proofs.placing.new_area.Reads as new-area-reads
 
--- src/placing.rt:106:13
+extended : (c : tie.Then1) → full (c .before .args .d) ≡ true
+extended c = sym (c .before .pre .3) ∙ c .if1 .taken
+
 new-area-requires : tie.Need-new-area-requires
 new-area-requires c κs = search needs
 
--- src/placing.rt:109:9
 mul-table : tie.Need-mul-table
 mul-table c = search needs
 
--- src/placing.rt:109:9
 array-set-from-table : tie.Need-array-set-from-table
-array-set-from-table c = ?
+array-set-from-table c = let s = c .before .before in nex-more (s .args .d) (s .pre .0) (s .pre .4) (extended (c .before)) .0
 
--- src/placing.rt:110:9
 returns : tie.Need-returns
-returns c = ?
+unfolding addressesAfter
+returns c = rw (extended (c .before), c .new-area .ensures)
 
--- src/placing.rt:97:1
 returns-2 : tie.Need-returns-2
-returns-2 c = ?
+unfolding addressesAfter
+returns-2 c = rw (sym (c .before .pre .3) ∙ c .if1 .left)
 
 pub addresses-after-spec : {M : Type 1} → statement M
 addresses-after-spec =

@@ -1,40 +1,53 @@
+-- `writer::placing::after_new_area` meets its contract. Assumes nothing.
+use Prim.Native.Nat.{_+_, _-_}
+use mathlib.Core.Path.{_≡_, ap}
+use native.Mathlib.Omega.{arith}
+use Rattle.geometry.specs.declared.units.RecordNumber.{RecordNumber}
+use Rattle.geometry.specs.Growth.{capacityOf}
+use Rattle.geometry.specs.Area.{areaRecords}
+use Rattle.descriptor.specs.FirstRecord.{growthIn}
+use Rattle.descriptor.proofs.AreaOrder.{growing}
+use Rattle.writer.specs.Placing.{afterNewArea}
+use Rattle.writer.proofs.Places.{after-small}
 use borrow.Author.Needs.{needs}
 use Rattle.writer.proofs.placing.after_new_area.Statement.{statement}
 use Rattle.writer.proofs.placing.after_new_area.Tie as tie
-use Rattle.writer.proofs.placing.after_new_area.Reads as reads
-use Rattle.writer.proofs.placing.after_new_area.Lts as lts
-use Rattle.geometry.proofs.area_records.Reads as area-records-reads
-use Rattle.geometry.proofs.growth.Growth.new.Reads as new-reads
-use Rattle.geometry.proofs.capacity.Reads as capacity-reads
-use Rattle.writer.proofs.placing.new_area.Reads as new-area-reads
 
--- src/placing.rt:46:28
+-- the capacity of the new extension, and the records of its area
+own : (c : tie.After-capacity) → let d = c .before .before .before .args .d in c .capacity .result ≡ capacityOf (growthIn d) (d .nex + 1)
+own c = rw (c .before .before .new .ensures) at (c .capacity .ensures)
+
+records : (c : tie.After-area-records) → let d = c .before .before .before .before .before .args .d in
+    c .area-records .result ≡ areaRecords (capacityOf (growthIn d) (d .nex + 1)) (d .lind) (d .reclen)
+records c = rw (own (c .before .before)) at (c .area-records .ensures)
+
 new-requires : tie.Need-new-requires
 new-requires c κs = search needs
 
--- src/placing.rt:46:72
 add-t4 : tie.Need-add-t4
 add-t4 c = search needs
 
--- src/placing.rt:46:9
 capacity-requires : tie.Need-capacity-requires
-capacity-requires c κs = ?
+capacity-requires c κs =
+    let s = c .before .before in
+    let q : s .args .d .nex + 1 - 1 ≡ s .args .d .nex = omega arith in
+    (omega arith, omega arith, rw (c .before .new .ensures, q) (growing (s .args .d) (s .args .d .nex) (s .pre .0) (omega arith)))
 
--- src/placing.rt:47:18
 new-area-requires : tie.Need-new-area-requires
 new-area-requires c κs = search needs
 
--- src/placing.rt:47:34
 area-records-requires : tie.Need-area-records-requires
-area-records-requires c κs = ?
+area-records-requires c κs = let s = c .before .before .before .before in (rw (own (c .before)) (s .pre .4), s .pre .0 .lind-high, omega (arith, s .pre .0 .reclen-low), s .pre .0 .reclen-high)
 
--- src/placing.rt:47:18
 add-t7 : tie.Need-add-t7
-add-t7 c = ?
+unfolding afterNewArea
+add-t7 c =
+    let s = c .before .before .before .before .before .before in
+    omega (arith, ap (λ (r : RecordNumber). r .0) (c .before .before .new-area .ensures), records (c .before), after-small (s .args .d) (s .pre .0) (s .pre .2) (s .pre .4))
 
--- src/placing.rt:42:1
 returns : tie.Need-returns
-returns c = ?
+unfolding afterNewArea
+returns c = rw (c .before .before .new-area .ensures, records (c .before))
 
 pub after-new-area-spec : {M : Type 1} → statement M
 after-new-area-spec =

@@ -1,27 +1,23 @@
+-- `writer::placing::is_full` meets its contract. Assumes nothing.
+use native.Mathlib.Omega.{arith}
+use Rattle.descriptor.proofs.AreaOrder.{growing}
+use Rattle.writer.specs.Placing.{full}
 use borrow.Author.Needs.{needs}
 use Rattle.writer.proofs.placing.is_full.Statement.{statement}
 use Rattle.writer.proofs.placing.is_full.Tie as tie
-use Rattle.writer.proofs.placing.is_full.Reads as reads
-use Rattle.writer.proofs.placing.is_full.Lts as lts
-use Rattle.geometry.proofs.growth.Growth.new.Reads as new-reads
-use Rattle.geometry.proofs.total.Reads as total-reads
-use Rattle.geometry.proofs.entries_before.Reads as entries-before-reads
 
--- src/placing.rt:30:5
 entries-before-requires : tie.Need-entries-before-requires
 entries-before-requires c κs = search needs
 
--- src/placing.rt:30:38
 new-requires : tie.Need-new-requires
 new-requires c κs = search needs
 
--- src/placing.rt:30:32
 total-requires : tie.Need-total-requires
-total-requires c κs = ?
+total-requires c κs = let s = c .before .before in (s .pre .0 .nex-high, rw (c .new .ensures) (growing (s .args .d) (s .args .d .nex) (s .pre .0) (omega arith)))
 
--- src/placing.rt:26:1
 returns : tie.Need-returns
-returns c = ?
+unfolding full
+returns c = rw (c .before .before .entries-before .ensures, rw (c .before .new .ensures) at (c .total .ensures))
 
 pub is-full-spec : {M : Type 1} → statement M
 is-full-spec = tie.close (tie.spec entries-before-requires new-requires total-requires returns)

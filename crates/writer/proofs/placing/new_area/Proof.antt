@@ -1,26 +1,30 @@
+-- `writer::placing::new_area` meets its contract. Assumes nothing.
+use mathlib.Core.Path.{_≡_}
+use native.Mathlib.Omega.{arith}
+use Rattle.geometry.specs.Area.{recordsFor}
+use Rattle.descriptor.specs.FirstRecord.{freeOf}
+use Rattle.writer.specs.Placing.{newArea}
+use Rattle.writer.proofs.Places.{new-small}
 use borrow.Author.Needs.{needs}
 use Rattle.writer.proofs.placing.new_area.Statement.{statement}
 use Rattle.writer.proofs.placing.new_area.Tie as tie
-use Rattle.writer.proofs.placing.new_area.Reads as reads
-use Rattle.writer.proofs.placing.new_area.Lts as lts
-use Rattle.descriptor.proofs.inner.free_position.Reads as free-position-reads
-use Rattle.geometry.proofs.records_for.Reads as records-for-reads
 
--- src/placing.rt:38:30
 free-position-requires : tie.Need-free-position-requires
 free-position-requires c κs = search needs
 
--- src/placing.rt:38:18
 records-for-requires : tie.Need-records-for-requires
 records-for-requires c κs = search needs
 
--- src/placing.rt:38:18
-add-t4 : tie.Need-add-t4
-add-t4 c = ?
+records : (c : tie.After-records-for) → let d = c .before .before .args .d in c .records-for .result ≡ recordsFor (freeOf d) (d .reclen)
+records c = rw (c .before .free-position .ensures) at (c .records-for .ensures)
 
--- src/placing.rt:34:1
+add-t4 : tie.Need-add-t4
+unfolding newArea
+add-t4 c = let s = c .before .before in omega (arith, records c, new-small (s .args .d) (s .pre .0) (s .pre .2))
+
 returns : tie.Need-returns
-returns c = ?
+unfolding newArea
+returns c = rw (records c)
 
 pub new-area-spec : {M : Type 1} → statement M
 new-area-spec = tie.close (tie.spec free-position-requires records-for-requires add-t4 returns)

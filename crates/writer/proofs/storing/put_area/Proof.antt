@@ -1,70 +1,63 @@
+-- `writer::storing::put_area` meets its contract: zeros, nex and the address are written one after the other, or nothing. Assumes nothing.
+use mathlib.Core.Path.{_≡_, sym, _∙_}
+use mathlib.Core.Bool.{true}
+use native.Mathlib.Omega.{arith}
+use Rattle.writer.specs.Placing.{full}
+use Rattle.writer.specs.Writing.{areaWritten}
+use Rattle.writer.proofs.Places.{nex-more, start-low}
 use borrow.Author.Needs.{needs}
 use Rattle.writer.proofs.storing.put_area.Statement.{statement}
 use Rattle.writer.proofs.storing.put_area.Tie as tie
-use Rattle.writer.proofs.storing.put_area.Reads as reads
-use Rattle.writer.proofs.storing.put_area.Lts as lts
-use Rattle.descriptor.proofs.inner.free_position.Reads as free-position-reads
-use Rattle.geometry.proofs.byte_offset.Reads as byte-offset-reads
-use Rattle.image.proofs.zero.Reads as zero-reads
-use Rattle.writer.proofs.fields.put_field4.Reads as put-field4-reads
-use Rattle.writer.proofs.fields.put_field8.Reads as put-field8-reads
-use Rattle.writer.proofs.placing.new_area.Reads as new-area-reads
 
--- src/storing.rt:83:13
+extended : (c : tie.Then1) → full (c .before .before .args .d) ≡ true
+extended c = sym (c .before .before .pre .3) ∙ c .if1 .taken
+
 free-position-requires : tie.Need-free-position-requires
 free-position-requires c κs = search needs
 
--- src/storing.rt:84:27
 byte-offset-requires : tie.Need-byte-offset-requires
 byte-offset-requires c κs = search needs
 
--- src/storing.rt:84:58
 sub-byte-offset : tie.Need-sub-byte-offset
-sub-byte-offset c = ?
+sub-byte-offset c = let s = c .before .before .before .before .before in omega (arith, start-low (s .args .d) (s .pre .0), s .pre .5)
 
--- src/storing.rt:84:46
 byte-offset-requires-2 : tie.Need-byte-offset-requires-2
 byte-offset-requires-2 c κs = search needs
 
--- src/storing.rt:84:9
 zero-requires : tie.Need-zero-requires
-zero-requires c κs = ?
+zero-requires c κs = let s = c .before .before .before .before .before .before in omega (arith, start-low (s .args .d) (s .pre .0), s .pre .5)
 
--- src/storing.rt:85:30
 add-put-field4 : tie.Need-add-put-field4
 add-put-field4 c = search needs
 
--- src/storing.rt:85:9
 put-field4-requires : tie.Need-put-field4-requires
 put-field4-requires c κs = search needs
 
--- src/storing.rt:86:31
 mul-put-field8 : tie.Need-mul-put-field8
 mul-put-field8 c = search needs
 
--- src/storing.rt:86:26
 add-put-field8 : tie.Need-add-put-field8
 add-put-field8 c = search needs
 
--- src/storing.rt:86:42
 new-area-requires : tie.Need-new-area-requires
 new-area-requires c κs = search needs
 
--- src/storing.rt:86:9
 put-field8-requires : tie.Need-put-field8-requires
-put-field8-requires c κs = ?
+put-field8-requires c κs =
+    let s = c .before .before .before .before .before .before .before .before .before .before .before .before .before .before .before .before .before in
+    let room = nex-more (s .args .d) (s .pre .0) (s .pre .4) (extended (c .before .before .before .before .before .before .before .before .before .before .before .before .before .before .before)) in
+    omega (arith, room, c .before .before .before .before .before .before .before .before .before .before .zero .kept .0, s .pre)
 
--- src/storing.rt:77:1
 same-length : tie.Need-same-length
 same-length c = search needs
 
--- src/storing.rt:77:1
 returns : tie.Need-returns
-returns c = ?
+unfolding areaWritten
+returns c = rw (extended (c .before .before .before .before .before .before .before .before .before .before .before .before .before .before .before .before .before .before)) (cc)
 
--- src/storing.rt:77:1
 returns-2 : tie.Need-returns-2
-returns-2 c = ?
+unfolding areaWritten
+returns-2 c = rw (sym (c .before .before .pre .3) ∙ c .if1 .left)
 
 pub put-area-spec : {M : Type 1} → statement M
 put-area-spec =
