@@ -32,6 +32,7 @@ use Rattle.descriptor.proofs.Fitting.{fit-none, fit-some, fit-reach, fit-full}
 use Rattle.descriptor.proofs.AreaOrder.{after-none, after-next, starts-run, area-ends, after-low}
 use Rattle.writer.specs.Placing.{full, newArea, afterNewArea, entryStart, nexAfter, numbersAfter, addressesAfter}
 use Rattle.writer.specs.Bounds.{Extensible}
+use Rattle.writer.proofs.Places.{new-small, start-low}
 
 -- ---- what an append does not change
 
@@ -74,32 +75,6 @@ module _ (bytes : ℕ) (d : DescriptorNumbers) (addresses : List RecordNumber) (
       let reach = records-hold (freeOf d) (d .reclen) some in
       let less : (areaAfter d addresses (d .nex) - 1) * d .reclen ≤ recordsFor (freeOf d) (d .reclen) * d .reclen = omega arith in
       omega (arith, le-of-mul-le-mul-right less some)
-
-  -- the new area starts at or after the next free position, and not far behind it
-  pub new-area-place : (freeOf d ≤ positionOf (d .reclen) (newArea d) (record { 0 = 1 })) × (newArea d .0 ≤ 2 ^ 28 + 1)
-  unfolding newArea positionOf
-  new-area-place =
-      let some : 1 ≤ d .reclen = omega (arith, a .settled .reclen-low) in
-      let q : recordsFor (freeOf d) (d .reclen) + 1 - 1 ≡ recordsFor (freeOf d) (d .reclen) = omega arith in (
-        rw q (omega (arith, records-hold (freeOf d) (d .reclen) some)),
-        omega (arith, a .room, a .lent .high, records-least (freeOf d) (d .reclen) (freeOf d) some (omega (arith, mul-le-mul-left (freeOf d) some))),
-      )
-
-  -- it is followed by the entry
-  pub after-new-area-low : positionOf (d .reclen) (newArea d) (record { 0 = 1 }) ≤ positionOf (d .reclen) (afterNewArea d) (record { 0 = 1 })
-  unfolding positionOf afterNewArea
-  after-new-area-low =
-      let less : newArea d .0 - 1 ≤ newArea d .0 + areaRecords (capacityOf (growthIn d) (d .nex + 1)) (d .lind) (d .reclen) - 1 = omega arith in
-      omega (arith, mul-le-mul-right (d .reclen) less)
-
-  -- the entry starts at or after the next free position
-  pub entry-start-low : freeOf d ≤ entryStart d
-  unfolding entryStart
-  entry-start-low = by (full d)
-    where
-      by : (b : Bool) → freeOf d ≤ cond b (positionOf (d .reclen) (afterNewArea d) (record { 0 = 1 })) (freeOf d)
-      by false = omega arith
-      by true = omega (arith, new-area-place .0, after-new-area-low)
 
 -- the extensions in use after an append
 pub nex-full : (d : DescriptorNumbers) → full d ≡ true → nexAfter d ≡ d .nex + 1
@@ -204,7 +179,7 @@ module _ (bytes : ℕ) (d : DescriptorNumbers) (addresses : List RecordNumber) (
         address-new q,
         atLeast-bits w64 (areaAfter d addresses (d .nex)) (newArea d .0),
         le-leb (areaAfter d addresses (d .nex)) (newArea d .0) (new-area-low bytes d addresses a),
-        lt-ltb (newArea d .0) (2 ^ 63) (omega (arith, new-area-place bytes d addresses a .1)),
+        lt-ltb (newArea d .0) (2 ^ 63) (omega (arith, new-small d (a .settled) (omega (arith, a .room, a .lent .high)))),
       )))
       (λ q. rw (nex-kept d q) starts-kept)
 
@@ -249,7 +224,7 @@ module _ (bytes : ℕ) (d : DescriptorNumbers) (addresses : List RecordNumber) (
     end-low =
         let second : 1 ≤ d .nextrec .0 - 1 = omega (arith, a .free .record-low) in
         let more = mul-le-mul-right (d .reclen) second in
-        omega (arith, entry-start-low bytes d addresses a)
+        omega (arith, start-low d (a .settled))
 
     place-after : Free (numbersAfter d end)
     unfolding numbersAfter placeOf

@@ -1,88 +1,179 @@
+-- `writer::inner::store` meets its contract: the pieces of an accepted append are written one after the other. Assumes nothing.
+use mathlib.Core.Path.{_≡_, sym, ap, _∙_}
+use Prim.Native.Nat.{ℕ, _+_, _*_, _/_, _<_, _≤_, _^_}
+use native.Mathlib.Omega.{arith}
+use lib.ListN.{length}
+use mir.Facts.{toZ-ofZ}
+use Rattle.geometry.specs.Units.{placeOf}
+use Rattle.geometry.proofs.Positions.{place-word}
+use Rattle.entry.specs.Opening.{slotPositionOf}
+use Rattle.writer.specs.declared.storing.Head.{Head}
+use Rattle.writer.specs.Handed.{Handed, handedIn, nwordIn, nsecIn}
+use Rattle.writer.specs.Placing.{entryStart, numbersAfter, addressesAfter}
+use Rattle.image.specs.Writes.{writes}
+use Rattle.writer.specs.Writing.{headFrom, headOf, headWrites, tableWrites, slotWrites, areaWritten, entryWritten, indexWritten, appended}
+use Rattle.writer.specs.Bounds.{Accepted}
+use Rattle.writer.proofs.Accepting.{head-nword, head-nsec, head-counted, section-words, value-bytes, data-next, free-small, xnext-small, entry-within, entry-small, admitted-after, number-last, slot-within}
 use borrow.Author.Needs.{needs}
 use Rattle.writer.proofs.inner.store.Statement.{statement}
 use Rattle.writer.proofs.inner.store.Tie as tie
-use Rattle.writer.proofs.inner.store.Reads as reads
-use Rattle.writer.proofs.inner.store.Lts as lts
-use Rattle.entry.proofs.inner.slot_position.Reads as slot-position-reads
-use Rattle.geometry.proofs.place_at.Reads as place-at-reads
-use Rattle.writer.proofs.fields.put_counts.Reads as put-counts-reads
-use Rattle.writer.proofs.placing.addresses_after.Reads as addresses-after-reads
-use Rattle.writer.proofs.placing.entry_start.Reads as entry-start-reads
-use Rattle.writer.proofs.placing.numbers_after.Reads as numbers-after-reads
-use Rattle.writer.proofs.storing.head_of.Reads as head-of-reads
-use Rattle.writer.proofs.storing.put_area.Reads as put-area-reads
-use Rattle.writer.proofs.storing.put_content.Reads as put-content-reads
-use Rattle.writer.proofs.storing.put_head.Reads as put-head-reads
-use Rattle.writer.proofs.storing.put_slot.Reads as put-slot-reads
-use Rattle.writer.proofs.storing.put_tables.Reads as put-tables-reads
 
--- src/inner.rt:93:9
+-- what is handed in, and that it is accepted
+abbrev handed : tie.Start → Handed
+handed s = handedIn (s .args .version) (s .args .index .now) (s .args .ids .now) (s .args .lengths .now) (s .args .sections .now) (s .args .values .now)
+
+accepted : (s : tie.Start) → Accepted (length (s .args .file .now)) (s .args .d) (s .args .addresses) (handed s)
+accepted s = s .pre .0
+
+-- the head, and the numbers after the append
+headed : (c : tie.After-head-of) → let s = (c .before .before .before .before .before .before .before) in c .head-of .result ≡ headOf (handed s) (s .args .d .xnext)
+headed c = let s = (c .before .before .before .before .before .before .before) in (rw (toZ-ofZ (s .fits .version)) at (c .head-of .ensures)) ∙ head-counted (s .args .d) (handed s) (accepted s .fitting) (s .args .d .xnext)
+
+numbered : (c : tie.After-numbers-after) → let s = (c .before .before .before .before .before .before .before .before .before) in c .numbers-after .result ≡ numbersAfter (s .args .d) (entryStart (s .args .d) + nwordIn (handed s))
+numbered c =
+    let s = (c .before .before .before .before .before .before .before .before .before) in
+    c .numbers-after .ensures
+    ∙ ap (λ (n : ℕ). numbersAfter (s .args .d) n) (ap (λ (n : ℕ). n + (c .before .before) .head-of .result .nword) ((c .before .before .before) .entry-start .ensures)
+    ∙ ap (λ (n : ℕ). entryStart (s .args .d) + n) (ap (λ (r : Head). r .nword) (headed (c .before .before)) ∙ head-nword (handed s) (s .args .d .xnext)))
+
+slotted : (c : tie.After-slot-position) → let s = (c .before .before .before .before .before .before .before .before .before .before .before) in
+    c .slot-position .result ≡ slotPositionOf (numbersAfter (s .args .d) (entryStart (s .args .d) + nwordIn (handed s))) (addressesAfter (s .args .d) (s .args .addresses)) (s .args .d .xnext)
+slotted c = rw (numbered (c .before .before), (c .before) .addresses-after .ensures) at (c .slot-position .ensures)
+
+-- the file once the area and the entry's head are written, once the entry is, and once its index is
+head-stored : (c : tie.After-put-head) → let s = (c .before .before .before .before .before .before .before .before .before .before .before .before .before .before .before .before .before) in
+    c .put-head .last .0 ≡ writes (areaWritten (s .args .file .now) (s .args .d)) (headWrites (entryStart (s .args .d)) (headOf (handed s) (s .args .d .xnext)))
+head-stored c = rw ((c .before .before .before .before) .put-area .ensures, headed (c .before .before .before .before .before .before .before .before .before .before), (c .before .before .before .before .before .before .before .before .before .before .before) .entry-start .ensures) at (c .put-head .ensures)
+
+tables-stored : (c : tie.After-put-tables) → let s = (c .before .before .before .before .before .before .before .before .before .before .before .before .before .before .before .before .before .before .before .before .before) in
+    c .put-tables .last .0
+    ≡ writes (writes (areaWritten (s .args .file .now) (s .args .d)) (headWrites (entryStart (s .args .d)) (headOf (handed s) (s .args .d .xnext))))
+    (tableWrites (entryStart (s .args .d)) (handed s .ids) (handed s .lengths))
+tables-stored c = rw (head-stored (c .before .before .before .before), (c .before .before .before .before .before .before .before .before .before .before .before .before .before .before .before) .entry-start .ensures) at (c .put-tables .ensures)
+
+entry-stored : (c : tie.After-put-content) → let s = (c .before .before .before .before .before .before .before .before .before .before .before .before .before .before .before .before .before .before .before .before .before .before .before .before .before .before) in
+    c .put-content .last .0 ≡ entryWritten (areaWritten (s .args .file .now) (s .args .d)) (s .args .d) (handed s)
+unfolding entryWritten headFrom
+entry-stored c =
+    let s = (c .before .before .before .before .before .before .before .before .before .before .before .before .before .before .before .before .before .before .before .before .before .before .before .before .before .before) in
+    rw (tables-stored (c .before .before .before .before .before), (c .before .before .before .before .before .before .before .before .before .before .before .before .before .before .before .before .before .before .before .before) .entry-start .ensures, headed (c .before .before .before .before .before .before .before .before .before .before .before .before .before .before .before .before .before .before .before), head-nsec (handed s) (s .args .d .xnext), sym (data-next (s .args .d) (handed s) (accepted s .fitting) (entryStart (s .args .d))))
+    at (c .put-content .ensures)
+
+index-stored : (c : tie.After-put-slot) → let s = (c .before .before .before .before .before .before .before .before .before .before .before .before .before .before .before .before .before .before .before .before .before .before .before .before .before .before .before .before .before .before .before) in let d = s .args .d in
+    c .put-slot .last .0
+    ≡ writes (entryWritten (areaWritten (s .args .file .now) d) d (handed s))
+    (slotWrites (slotPositionOf (numbersAfter d (entryStart d + nwordIn (handed s))) (addressesAfter d (s .args .addresses)) (d .xnext)) (placeOf (d .reclen) (entryStart d)) (handed s .index))
+index-stored c =
+    rw ((c .before .before .before .before .before .before .before .before .before .before .before .before .before .before .before .before .before .before .before .before .before .before .before .before .before) .entry-start .ensures, entry-stored (c .before .before .before .before .before), slotted (c .before .before .before .before .before .before .before .before .before .before .before .before .before .before .before .before .before .before .before .before), c .before .place-at .ensures) at (c .put-slot .ensures)
+
 entry-start-requires : tie.Need-entry-start-requires
 entry-start-requires c κs = search needs
 
--- src/inner.rt:94:9
 head-of-requires : tie.Need-head-of-requires
 head-of-requires c κs = search needs
 
--- src/inner.rt:101:44
 add-numbers-after : tie.Need-add-numbers-after
-add-numbers-after c = ?
+add-numbers-after c = 
+    let s = (c .before .before .before .before .before .before .before .before) in
+    let x = accepted s in
+    omega (arith, entry-small _ _ _ _ x, (c .before .before) .entry-start .ensures, ap (λ (r : Head). r .nword) (headed (c .before)), head-nword (handed s) (s .args .d .xnext))
 
--- src/inner.rt:101:9
 numbers-after-requires : tie.Need-numbers-after-requires
-numbers-after-requires c κs = ?
+numbers-after-requires c κs = 
+    let s = (c .before .before .before .before .before .before .before .before) in
+    let x = accepted s in
+    let n = ap (λ (r : Head). r .nword) (headed (c .before)) ∙ head-nword (handed s) (s .args .d .xnext) in
+    (x .admitted .settled, xnext-small _ _ _ (x .admitted), s .pre .1, omega (arith, entry-small _ _ _ _ x, (c .before .before) .entry-start .ensures, n))
 
--- src/inner.rt:102:9
 addresses-after-requires : tie.Need-addresses-after-requires
-addresses-after-requires c κs = ?
+addresses-after-requires c κs = 
+    let s = (c .before .before .before .before .before .before .before .before .before) in
+    let x = accepted s in
+    (x .admitted .settled, x .admitted .free, free-small _ _ _ (x .admitted), s .pre .1, x .extensible)
 
--- src/inner.rt:103:9
 slot-position-requires : tie.Need-slot-position-requires
-slot-position-requires c κs = ?
+slot-position-requires c κs = 
+    let s = (c .before .before .before .before .before .before .before .before .before .before) in
+    let x = accepted s in
+    let n = numbered (c .before) in
+    rw (n, c .addresses-after .ensures) (admitted-after _ _ _ _ x, x .admitted .counted, omega (arith, number-last _ _ _ _ x))
 
--- src/inner.rt:104:5
 put-area-requires : tie.Need-put-area-requires
-put-area-requires c κs = ?
+put-area-requires c κs = 
+    let s = (c .before .before .before .before .before .before .before .before .before .before .before .before) in
+    let x = accepted s in
+    let e = (c .before .before .before .before .before .before) .entry-start .ensures in
+    (x .admitted .settled, x .admitted .free, free-small _ _ _ (x .admitted), s .pre .1, x .extensible, e, omega (arith, e, entry-small _ _ _ _ x), omega (arith, e, entry-within _ _ _ _ x), x .admitted .lent .first)
 
--- src/inner.rt:105:5
 put-head-requires : tie.Need-put-head-requires
-put-head-requires c κs = ?
+put-head-requires c κs = 
+    let s = (c .before .before .before .before .before .before .before .before .before .before .before .before .before .before .before .before) in
+    let x = accepted s in
+    let e = (c .before .before .before .before .before .before .before .before .before .before) .entry-start .ensures in
+    let n = ap (λ (r : Head). r .nsec) (headed (c .before .before .before .before .before .before .before .before .before)) ∙ head-nsec (handed s) (s .args .d .xnext) in
+    (omega (arith, e, entry-small _ _ _ _ x), omega (arith, e, entry-within _ _ _ _ x, (c .before .before .before) .put-area .kept .0), omega (arith, n, x .fitting .few))
 
--- src/inner.rt:106:5
 put-tables-requires : tie.Need-put-tables-requires
-put-tables-requires c κs = ?
+put-tables-requires c κs = 
+    let s = (c .before .before .before .before .before .before .before .before .before .before .before .before .before .before .before .before .before .before .before .before) in
+    let x = accepted s in
+    let e = (c .before .before .before .before .before .before .before .before .before .before .before .before .before .before) .entry-start .ensures in
+    let f = x .fitting in
+    (omega (arith, e, entry-small _ _ _ _ x), f .few, f .pairs, omega (arith, e, entry-within _ _ _ _ x, (c .before .before .before .before .before .before .before) .put-area .kept .0, (c .before .before .before) .put-head .kept .0), f .counted, omega (arith, entry-small _ _ _ _ x))
 
--- src/inner.rt:107:35
 mul-put-content : tie.Need-mul-put-content
-mul-put-content c = ?
+mul-put-content c = 
+    let s = (c .before .before .before .before .before .before .before .before .before .before .before .before .before .before .before .before .before .before .before .before .before .before .before .before .before) in
+    let x = accepted s in
+    omega (arith, ap (λ (r : Head). r .nsec) (headed (c .before .before .before .before .before .before .before .before .before .before .before .before .before .before .before .before .before .before)) ∙ head-nsec (handed s) (s .args .d .xnext), x .fitting .few)
 
--- src/inner.rt:107:30
 add-put-content : tie.Need-add-put-content
-add-put-content c = ?
+add-put-content c = 
+    let s = (c .before .before .before .before .before .before .before .before .before .before .before .before .before .before .before .before .before .before .before .before .before .before .before .before .before) in
+    let x = accepted s in
+    omega (arith, ap (λ (r : Head). r .nsec) (headed (c .before .before .before .before .before .before .before .before .before .before .before .before .before .before .before .before .before .before)) ∙ head-nsec (handed s) (s .args .d .xnext), x .fitting .few)
 
--- src/inner.rt:107:5
 put-content-requires : tie.Need-put-content-requires
-put-content-requires c κs = ?
+put-content-requires c κs = 
+    let s = (c .before .before .before .before .before .before .before .before .before .before .before .before .before .before .before .before .before .before .before .before .before .before .before .before .before) in
+    let x = accepted s in
+    let e = (c .before .before .before .before .before .before .before .before .before .before .before .before .before .before .before .before .before .before .before) .entry-start .ensures in
+    let f = x .fitting in
+    let n = ap (λ (r : Head). r .nsec) (headed (c .before .before .before .before .before .before .before .before .before .before .before .before .before .before .before .before .before .before)) ∙ head-nsec (handed s) (s .args .d .xnext) in
+    (omega arith, omega (arith, e, n, entry-small _ _ _ _ x, f .few), omega (arith, e, n, entry-within _ _ _ _ x, f .sections, value-bytes _ _ f, (c .before .before .before .before .before .before .before .before .before .before .before .before) .put-area .kept .0, (c .before .before .before .before .before .before .before .before) .put-head .kept .0, (c .before .before .before .before) .put-tables .kept .0))
 
--- src/inner.rt:108:26
 place-at-requires : tie.Need-place-at-requires
-place-at-requires c κs = ?
+place-at-requires c κs = 
+    let s = (c .before .before .before .before .before .before .before .before .before .before .before .before .before .before .before .before .before .before .before .before .before .before .before .before .before .before .before .before .before) in
+    let x = accepted s in
+    omega (arith, (c .before .before .before .before .before .before .before .before .before .before .before .before .before .before .before .before .before .before .before .before .before .before .before) .entry-start .ensures, entry-small _ _ _ _ x, x .admitted .settled .reclen-low, x .admitted .settled .reclen-high)
 
--- src/inner.rt:108:5
 put-slot-requires : tie.Need-put-slot-requires
-put-slot-requires c κs = ?
+put-slot-requires c κs = 
+    let s = (c .before .before .before .before .before .before .before .before .before .before .before .before .before .before .before .before .before .before .before .before .before .before .before .before .before .before .before .before .before .before) in
+    let x = accepted s in
+    let p = slotted (c .before .before .before .before .before .before .before .before .before .before .before .before .before .before .before .before .before .before .before) in
+    let a = x .admitted .settled in
+    let i = slot-within _ _ _ _ x in
+    (omega (arith, p, i, x .admitted .lent .high), rw (c .place-at .ensures) (omega (arith, place-word (s .args .d .reclen) ((c .before .before .before .before .before .before .before .before .before .before .before .before .before .before .before .before .before .before .before .before .before .before .before .before) .entry-start .result) (omega (arith, a .reclen-low)), a .reclen-high)),
+    omega (arith, p, i, a .lind-low, x .fitting .index, (c .before .before .before .before .before .before .before .before .before .before .before .before .before .before .before .before .before) .put-area .kept .0, (c .before .before .before .before .before .before .before .before .before .before .before .before .before) .put-head .kept .0, (c .before .before .before .before .before .before .before .before .before) .put-tables .kept .0, (c .before .before .before .before) .put-content .kept .0))
 
--- src/inner.rt:109:5
 put-counts-requires : tie.Need-put-counts-requires
-put-counts-requires c κs = ?
+put-counts-requires c κs = 
+    let s = (c .before .before .before .before .before .before .before .before .before .before .before .before .before .before .before .before .before .before .before .before .before .before .before .before .before .before .before .before .before .before .before .before .before .before) in
+    let x = accepted s in
+    let b = admitted-after _ _ _ _ x in
+    (rw (numbered (c .before .before .before .before .before .before .before .before .before .before .before .before .before .before .before .before .before .before .before .before .before .before .before .before .before)) (omega (arith, b .free .word-high, b .settled .reclen-high)), omega (arith, x .admitted .lent .first, x .admitted .settled .reclen-low, (c .before .before .before .before .before .before .before .before .before .before .before .before .before .before .before .before .before .before .before .before .before) .put-area .kept .0, (c .before .before .before .before .before .before .before .before .before .before .before .before .before .before .before .before .before) .put-head .kept .0, (c .before .before .before .before .before .before .before .before .before .before .before .before .before) .put-tables .kept .0, (c .before .before .before .before .before .before .before .before) .put-content .kept .0, (c .before .before .before) .put-slot .kept .0))
 
--- src/inner.rt:76:1
 same-length : tie.Need-same-length
-same-length c = ?
+same-length c = omega (arith, (c .before .before .before .before .before .before .before .before .before .before .before .before .before .before .before .before .before .before .before .before .before .before .before .before) .put-area .kept .0, (c .before .before .before .before .before .before .before .before .before .before .before .before .before .before .before .before .before .before .before .before) .put-head .kept .0, (c .before .before .before .before .before .before .before .before .before .before .before .before .before .before .before .before) .put-tables .kept .0, (c .before .before .before .before .before .before .before .before .before .before .before) .put-content .kept .0, (c .before .before .before .before .before .before) .put-slot .kept .0, (c .before .before) .put-counts .kept .0)
 
--- src/inner.rt:76:1
 returns : tie.Need-returns
-returns c = ?
+unfolding appended indexWritten
+returns c = 
+    let s = (c .before .before .before .before .before .before .before .before .before .before .before .before .before .before .before .before .before .before .before .before .before .before .before .before .before .before .before .before .before .before .before .before .before .before .before .before .before) in
+    let n = numbered (c .before .before .before .before .before .before .before .before .before .before .before .before .before .before .before .before .before .before .before .before .before .before .before .before .before .before .before .before) in
+    (rw (n, (c .before .before .before .before .before .before .before .before .before .before .before .before .before .before .before .before .before .before .before .before .before .before .before .before .before .before .before) .addresses-after .ensures), rw (index-stored (c .before .before .before .before .before .before), n) at ((c .before .before) .put-counts .ensures))
 
 pub store-spec : {M : Type 1} → statement M
 store-spec =

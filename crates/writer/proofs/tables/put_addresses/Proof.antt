@@ -1,72 +1,86 @@
+-- `writer::tables::put_addresses` meets its contract. The loop's invariant: the address is the first plus the lengths passed, and the file is the one
+-- at entry with the addresses of the sections passed written over it. Assumes nothing.
+use mathlib.Core.Path.{_≡_, refl, sym}
+use Prim.Native.Nat.{_+_, _-_, _≤_}
+use native.Mathlib.Omega.{arith}
+use borrow.Author.Needs.{needs}
+use denote.Ref.{now}
+use lib.IntN.{pos}
+use lib.ListN.{length, getD, take}
+use lib.Seq.{take-all}
+use Rattle.image.specs.Image.{splice}
+use Rattle.image.proofs.Splice.{splice-nil}
+use Rattle.geometry.specs.Units.{offsetOf}
+use Rattle.writer.specs.Handed.{wordsOf, sumOf}
+use Rattle.writer.specs.Writing.{addressBytes}
+use Rattle.writer.proofs.TableBytes.{address-table, table-turn, sum-next, sum-fewer, length-words}
 use Rattle.writer.proofs.tables.put_addresses.Statement.{statement}
 use Rattle.writer.proofs.tables.put_addresses.Tie as tie
-use Rattle.writer.proofs.tables.put_addresses.Reads as reads
-use Rattle.writer.proofs.tables.put_addresses.Lts as lts
-use Rattle.geometry.proofs.byte_offset.Reads as byte-offset-reads
-use Rattle.words.proofs.bits64.Reads as bits64-reads
-use Rattle.words.proofs.put_u64.Reads as put-u64-reads
 
 abbrev Inv-loop : tie.InvT-loop
-Inv-loop file₀ position first lengths address₀ done₀ file address done = ?
+Inv-loop file₀ position first lengths address₀ done₀ file address done =
+    (done ≤ length lengths) × (length file ≡ length file₀) × (address ≡ first + sumOf (take done lengths)) × (file ≡ splice file₀ (offsetOf position) (addressBytes first (take done lengths)))
 
 abbrev μ-loop : tie.MeasureT-loop
-μ-loop file₀ position first lengths address₀ done₀ file address done = ?
+μ-loop file₀ position first lengths address₀ done₀ file address done = length lengths - done
 
--- src/tables.rt:47:5
 loop-holds : tie.Need-loop-holds Inv-loop μ-loop
-loop-holds c = ?
+loop-holds c = (omega arith, refl, omega arith, sym (splice-nil _ _))
 
--- src/tables.rt:48:53
 mul-byte-offset : tie.Need-mul-byte-offset Inv-loop μ-loop
-mul-byte-offset c = ?
+mul-byte-offset c = search needs
 
--- src/tables.rt:48:42
 add-byte-offset : tie.Need-add-byte-offset Inv-loop μ-loop
-add-byte-offset c = ?
+add-byte-offset c = search needs
 
--- src/tables.rt:48:30
 byte-offset-requires : tie.Need-byte-offset-requires Inv-loop μ-loop
-byte-offset-requires c κs = ?
+byte-offset-requires c κs = search needs
 
--- src/tables.rt:48:9
 put-u64-requires : tie.Need-put-u64-requires Inv-loop μ-loop
-put-u64-requires c κs = ?
+put-u64-requires c κs = search needs
 
--- src/tables.rt:49:34
 mul-bits64 : tie.Need-mul-bits64 Inv-loop μ-loop
-mul-bits64 c = ?
+mul-bits64 c = search needs
 
--- src/tables.rt:49:34
 shared-slice-copy-out-bits64 : tie.Need-shared-slice-copy-out-bits64 Inv-loop μ-loop
-shared-slice-copy-out-bits64 c = ?
+shared-slice-copy-out-bits64 c = search needs
 
--- src/tables.rt:49:20
 bits64-requires : tie.Need-bits64-requires Inv-loop μ-loop
-bits64-requires c κs = ?
+bits64-requires c κs = search needs
 
--- src/tables.rt:49:9
+-- what is added to the address is the length passed
+words : (c : tie.After-bits64 Inv-loop μ-loop) → c .bits64 .result ≡ wordsOf (getD (now (c .before .before .before .before .before .before .before .before .before .before .args .lengths)) (c .before .before .before .before .before .before .before .before .loop .done) (pos 0))
+words c = length-words _ _ _ (c .before .before .before .before .before .before .before .before .before .before .pre .3) (c .before .before .before .before .before .before .before .loop-test .taken) (c .before .bits64-arg .given) (c .bits64 .ensures)
+
 add-address : tie.Need-add-address Inv-loop μ-loop
-add-address c = ?
+add-address c =
+    let s = c .before .before .before .before .before .before .before .before .before .before in
+    let l = c .before .before .before .before .before .before .before .before .loop in
+    omega (arith, words c, sum-next (now (s .args .lengths)) (l .done) (omega arith), sum-fewer (now (s .args .lengths)) (l .done + 1))
 
--- src/tables.rt:50:9
 add-done : tie.Need-add-done Inv-loop μ-loop
-add-done c = ?
+add-done c = search needs
 
--- src/tables.rt:47:5
 loop-less : tie.Need-loop-less Inv-loop μ-loop
-loop-less c = ?
+loop-less c = search needs
 
--- src/tables.rt:47:5
 loop-again : tie.Need-loop-again Inv-loop μ-loop
-loop-again c = ?
+loop-again c =
+    let p = c .before .before .before .before in
+    let l = p .before .before .before .before .loop in
+    let a = p .before .before .before .before .before .before .args in (
+      omega arith,
+      omega arith,
+      omega (arith, words c, sum-next (now (a .lengths)) (l .done) (omega arith)),
+      table-turn address-table (now (a .file)) (offsetOf (a .position)) (a .first) (now (a .lengths)) (l .done) (l .file) (p .put-u64 .last .0) (p .before .byte-offset .result)
+          (omega arith) (l .inv .3) (omega arith) (rw (l .inv .2) at (p .put-u64 .ensures)),
+    )
 
--- src/tables.rt:40:1
 same-length : tie.Need-same-length Inv-loop μ-loop
-same-length c = ?
+same-length c = search needs
 
--- src/tables.rt:40:1
 returns : tie.Need-returns Inv-loop μ-loop
-returns c = ?
+returns c = rw (take-all _ _ (c .loop-test .left)) at (c .before .loop .inv .3)
 
 pub put-addresses-spec : {M : Type 1} → statement M
 put-addresses-spec =

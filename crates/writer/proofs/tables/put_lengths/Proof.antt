@@ -1,63 +1,72 @@
+-- `writer::tables::put_lengths` meets its contract. The loop's invariant: the file is the one at entry with the lengths passed written over it. Assumes nothing.
+use mathlib.Core.Path.{_≡_, refl, sym}
+use Prim.Native.Nat.{_-_, _≤_}
+use native.Mathlib.Omega.{arith}
+use borrow.Author.Needs.{needs}
+use denote.Ref.{now}
+use lib.ListN.{length, take}
+use lib.Seq.{take-all}
+use Rattle.image.specs.Image.{splice}
+use Rattle.image.proofs.Splice.{splice-nil}
+use Rattle.words.specs.Word.{integer8}
+use Rattle.geometry.specs.Units.{offsetOf}
+use Rattle.writer.specs.Writing.{lengthBytes}
+use Rattle.writer.proofs.HandedIn.{read-back}
+use Rattle.writer.proofs.TableBytes.{length-table, table-turn}
 use Rattle.writer.proofs.tables.put_lengths.Statement.{statement}
 use Rattle.writer.proofs.tables.put_lengths.Tie as tie
-use Rattle.writer.proofs.tables.put_lengths.Reads as reads
-use Rattle.writer.proofs.tables.put_lengths.Lts as lts
-use Rattle.geometry.proofs.byte_offset.Reads as byte-offset-reads
-use Rattle.words.proofs.put_i64.Reads as put-i64-reads
 
 abbrev Inv-loop : tie.InvT-loop
-Inv-loop file₀ position lengths done₀ file done = ?
+Inv-loop file₀ position lengths done₀ file done =
+    (done ≤ length lengths) × (length file ≡ length file₀) × (file ≡ splice file₀ (offsetOf position) (lengthBytes (take done lengths)))
 
 abbrev μ-loop : tie.MeasureT-loop
-μ-loop file₀ position lengths done₀ file done = ?
+μ-loop file₀ position lengths done₀ file done = length lengths - done
 
--- src/tables.rt:31:5
 loop-holds : tie.Need-loop-holds Inv-loop μ-loop
-loop-holds c = ?
+loop-holds c = (omega arith, refl, sym (splice-nil _ _))
 
--- src/tables.rt:32:21
 mul-words : tie.Need-mul-words Inv-loop μ-loop
-mul-words c = ?
+mul-words c = search needs
 
--- src/tables.rt:32:21
 shared-slice-copy-out-words : tie.Need-shared-slice-copy-out-words Inv-loop μ-loop
-shared-slice-copy-out-words c = ?
+shared-slice-copy-out-words c = search needs
 
--- src/tables.rt:33:53
 mul-byte-offset : tie.Need-mul-byte-offset Inv-loop μ-loop
-mul-byte-offset c = ?
+mul-byte-offset c = search needs
 
--- src/tables.rt:33:42
 add-byte-offset : tie.Need-add-byte-offset Inv-loop μ-loop
-add-byte-offset c = ?
+add-byte-offset c = search needs
 
--- src/tables.rt:33:30
 byte-offset-requires : tie.Need-byte-offset-requires Inv-loop μ-loop
-byte-offset-requires c κs = ?
+byte-offset-requires c κs = search needs
 
--- src/tables.rt:33:9
 put-i64-requires : tie.Need-put-i64-requires Inv-loop μ-loop
-put-i64-requires c κs = ?
+put-i64-requires c κs = search needs
 
--- src/tables.rt:34:9
 add-done : tie.Need-add-done Inv-loop μ-loop
-add-done c = ?
+add-done c = search needs
 
--- src/tables.rt:31:5
 loop-less : tie.Need-loop-less Inv-loop μ-loop
-loop-less c = ?
+loop-less c = search needs
 
--- src/tables.rt:31:5
 loop-again : tie.Need-loop-again Inv-loop μ-loop
-loop-again c = ?
+loop-again c =
+    let p = c .before .before in
+    let l = p .before .before .before .before .before .loop in
+    let a = p .before .before .before .before .before .before .before .args in
+    let read = read-back integer8 (now (a .lengths)) (l .done) (p .before .before .before .words .given) in (
+      omega arith,
+      omega arith,
+      table-turn length-table (now (a .file)) (offsetOf (a .position)) 0 (now (a .lengths)) (l .done) (l .file) (p .put-i64 .last .0) (p .before .byte-offset .result)
+          (omega arith) (l .inv .2) (omega arith) (rw read at (p .put-i64 .ensures)),
+    )
 
--- src/tables.rt:26:1
 same-length : tie.Need-same-length Inv-loop μ-loop
-same-length c = ?
+same-length c = search needs
 
--- src/tables.rt:26:1
 returns : tie.Need-returns Inv-loop μ-loop
-returns c = ?
+returns c = rw (take-all _ _ (c .loop-test .left)) at (c .before .loop .inv .2)
 
 pub put-lengths-spec : {M : Type 1} → statement M
 put-lengths-spec =

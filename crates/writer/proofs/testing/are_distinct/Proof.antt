@@ -1,50 +1,60 @@
+-- `writer::testing::are_distinct` meets its contract. The loop's invariant: no two of the identifiers passed are equal. Assumes nothing.
+use mathlib.Core.Path.{_≡_, refl, sym, _∙_}
+use mathlib.Core.Bool.{true}
+use Prim.Native.Nat.{_-_, _≤_}
+use native.Mathlib.Omega.{arith}
+use borrow.Author.Needs.{needs}
+use denote.Ref.{now}
+use lib.ListN.{length}
+use Rattle.words.specs.Word.{integer4}
+use Rattle.words.proofs.Runs.{run-next, run-failed}
+use Rattle.descriptor.proofs.Tests.{holds, broken}
+use Rattle.writer.specs.Handed.{distinct}
+use Rattle.writer.proofs.HandedIn.{read-back, distinct-run}
 use Rattle.writer.proofs.testing.are_distinct.Statement.{statement}
 use Rattle.writer.proofs.testing.are_distinct.Tie as tie
-use Rattle.writer.proofs.testing.are_distinct.Reads as reads
-use Rattle.writer.proofs.testing.are_distinct.Lts as lts
-use Rattle.writer.proofs.testing.is_absent.Reads as is-absent-reads
 
 abbrev Inv-loop : tie.InvT-loop
-Inv-loop ids passed₀ passed = ?
+Inv-loop ids passed₀ passed = (passed ≤ length ids) × (distinct ids passed ≡ true)
 
 abbrev μ-loop : tie.MeasureT-loop
-μ-loop ids passed₀ passed = ?
+μ-loop ids passed₀ passed = length ids - passed
 
--- src/testing.rt:42:5
 loop-holds : tie.Need-loop-holds Inv-loop μ-loop
-loop-holds c = ?
+unfolding distinct
+loop-holds c = (omega arith, refl)
 
--- src/testing.rt:43:26
 mul-identifier : tie.Need-mul-identifier Inv-loop μ-loop
-mul-identifier c = ?
+mul-identifier c = search needs
 
--- src/testing.rt:43:26
 shared-slice-copy-out-identifier : tie.Need-shared-slice-copy-out-identifier Inv-loop μ-loop
-shared-slice-copy-out-identifier c = ?
+shared-slice-copy-out-identifier c = search needs
 
--- src/testing.rt:44:13
 is-absent-requires : tie.Need-is-absent-requires Inv-loop μ-loop
-is-absent-requires c κs = ?
+is-absent-requires c κs = search needs
 
--- src/testing.rt:45:13
 returns : tie.Need-returns Inv-loop μ-loop
-returns c = ?
+returns c =
+    let read = read-back integer4 (now (c .before .before .before .before .before .args .ids)) (c .before .before .before .before .loop .passed) (c .before .before .identifier .given) in
+    sym (run-failed (distinct-run _) _ _ (c .before .before .before .loop-test .taken) (broken (rw read at (c .before .is-absent .ensures)) (c .if1 .taken)))
 
--- src/testing.rt:47:9
 add-passed : tie.Need-add-passed Inv-loop μ-loop
-add-passed c = ?
+add-passed c = omega arith
 
--- src/testing.rt:42:5
 loop-less : tie.Need-loop-less Inv-loop μ-loop
-loop-less c = ?
+loop-less c = omega arith
 
--- src/testing.rt:42:5
 loop-again : tie.Need-loop-again Inv-loop μ-loop
-loop-again c = ?
+loop-again c =
+    let read = read-back integer4 (now (c .before .before .before .before .before .args .ids)) (c .before .before .before .before .loop .passed) (c .before .before .identifier .given) in (
+      omega arith,
+      run-next (distinct-run _) _ (c .before .before .before .before .loop .inv .1) ∙ holds (rw read at (c .before .is-absent .ensures)) (c .if1 .left),
+    )
 
--- src/testing.rt:38:1
 returns-2 : tie.Need-returns-2 Inv-loop μ-loop
-returns-2 c = ?
+returns-2 c =
+    let e : c .before .loop .passed ≡ length (now (c .before .before .args .ids)) = omega arith in
+    sym (rw e at (c .before .loop .inv .1))
 
 pub are-distinct-spec : {M : Type 1} → statement M
 are-distinct-spec =

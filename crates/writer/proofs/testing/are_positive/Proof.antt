@@ -1,45 +1,56 @@
+-- `writer::testing::are_positive` meets its contract. The loop's invariant: each length passed is 1 or more. Assumes nothing.
+use mathlib.Core.Path.{_≡_, refl, sym, ap, _∙_}
+use mathlib.Core.Bool.{true, not}
+use Prim.Native.Nat.{_-_, _≤_}
+use native.Mathlib.Omega.{arith}
+use borrow.Author.Needs.{needs}
+use denote.Ref.{now}
+use lib.ListN.{length}
+use Rattle.words.specs.Word.{integer8}
+use Rattle.words.proofs.Runs.{run-next, run-failed}
+use Rattle.writer.specs.Handed.{positive}
+use Rattle.writer.proofs.HandedIn.{read-back, atLeast-below, positive-run}
 use Rattle.writer.proofs.testing.are_positive.Statement.{statement}
 use Rattle.writer.proofs.testing.are_positive.Tie as tie
-use Rattle.writer.proofs.testing.are_positive.Reads as reads
-use Rattle.writer.proofs.testing.are_positive.Lts as lts
 
 abbrev Inv-loop : tie.InvT-loop
-Inv-loop lengths passed₀ passed = ?
+Inv-loop lengths passed₀ passed = (passed ≤ length lengths) × (positive lengths passed ≡ true)
 
 abbrev μ-loop : tie.MeasureT-loop
-μ-loop lengths passed₀ passed = ?
+μ-loop lengths passed₀ passed = length lengths - passed
 
--- src/testing.rt:57:5
 loop-holds : tie.Need-loop-holds Inv-loop μ-loop
-loop-holds c = ?
+unfolding positive
+loop-holds c = (omega arith, refl)
 
--- src/testing.rt:58:12
 mul-if1 : tie.Need-mul-if1 Inv-loop μ-loop
-mul-if1 c = ?
+mul-if1 c = search needs
 
--- src/testing.rt:58:12
 shared-slice-copy-out-if1 : tie.Need-shared-slice-copy-out-if1 Inv-loop μ-loop
-shared-slice-copy-out-if1 c = ?
+shared-slice-copy-out-if1 c = search needs
 
--- src/testing.rt:59:13
 returns : tie.Need-returns Inv-loop μ-loop
-returns c = ?
+returns c =
+    let read = read-back integer8 (now (c .before .before .before .before .args .lengths)) (c .before .before .before .loop .passed) (c .before .if12 .given) in
+    sym (run-failed (positive-run _) _ _ (c .before .before .loop-test .taken) (atLeast-below 1 _ ∙ ap not (rw read at (c .if1 .taken))))
 
--- src/testing.rt:61:9
 add-passed : tie.Need-add-passed Inv-loop μ-loop
-add-passed c = ?
+add-passed c = omega arith
 
--- src/testing.rt:57:5
 loop-less : tie.Need-loop-less Inv-loop μ-loop
-loop-less c = ?
+loop-less c = omega arith
 
--- src/testing.rt:57:5
 loop-again : tie.Need-loop-again Inv-loop μ-loop
-loop-again c = ?
+loop-again c =
+    let read = read-back integer8 (now (c .before .before .before .before .args .lengths)) (c .before .before .before .loop .passed) (c .before .if12 .given) in (
+      omega arith,
+      run-next (positive-run _) _ (c .before .before .before .loop .inv .1) ∙ atLeast-below 1 _ ∙ ap not (rw read at (c .if1 .left)),
+    )
 
--- src/testing.rt:53:1
 returns-2 : tie.Need-returns-2 Inv-loop μ-loop
-returns-2 c = ?
+returns-2 c =
+    let e : c .before .loop .passed ≡ length (now (c .before .before .args .lengths)) = omega arith in
+    sym (rw e at (c .before .loop .inv .1))
 
 pub are-positive-spec : {M : Type 1} → statement M
 are-positive-spec =

@@ -1,45 +1,62 @@
+-- `writer::testing::is_absent` meets its contract. The loop's invariant: the identifier is none of those passed. Assumes nothing.
+use mathlib.Core.Path.{_≡_, refl, sym, ap, _∙_}
+use mathlib.Core.Bool.{true, not}
+use Prim.Native.Nat.{_-_, _≤_}
+use native.Mathlib.Omega.{arith}
+use borrow.Author.Needs.{needs}
+use denote.Ref.{now}
+use mir.Val.{ofZ}
+use mir.Facts.{toZ-ofZ}
+use Rattle.words.specs.Word.{integer4, signedOf}
+use Rattle.words.proofs.Runs.{run-next, run-failed}
+use Rattle.entry.proofs.SectionTables.{same-equal, same-other}
+use Rattle.writer.specs.Handed.{absent}
+use Rattle.writer.proofs.HandedIn.{read-back, absent-run}
 use Rattle.writer.proofs.testing.is_absent.Statement.{statement}
 use Rattle.writer.proofs.testing.is_absent.Tie as tie
-use Rattle.writer.proofs.testing.is_absent.Reads as reads
-use Rattle.writer.proofs.testing.is_absent.Lts as lts
 
 abbrev Inv-loop : tie.InvT-loop
-Inv-loop ids identifier count passed₀ passed = ?
+Inv-loop ids identifier count passed₀ passed = (passed ≤ count) × (absent ids (signedOf integer4 identifier) passed ≡ true)
 
 abbrev μ-loop : tie.MeasureT-loop
-μ-loop ids identifier count passed₀ passed = ?
+μ-loop ids identifier count passed₀ passed = count - passed
 
--- src/testing.rt:28:5
 loop-holds : tie.Need-loop-holds Inv-loop μ-loop
-loop-holds c = ?
+unfolding absent
+loop-holds c = (omega arith, refl)
 
--- src/testing.rt:29:12
 mul-if1 : tie.Need-mul-if1 Inv-loop μ-loop
-mul-if1 c = ?
+mul-if1 c = search needs
 
--- src/testing.rt:29:12
 shared-slice-copy-out-if1 : tie.Need-shared-slice-copy-out-if1 Inv-loop μ-loop
-shared-slice-copy-out-if1 c = ?
+shared-slice-copy-out-if1 c = search needs
 
--- src/testing.rt:30:13
 returns : tie.Need-returns Inv-loop μ-loop
-returns c = ?
+returns c =
+    let s = c .before .before .before .before in
+    let known = toZ-ofZ (s .fits .identifier) in
+    let read = read-back integer4 (now (s .args .ids)) (c .before .before .before .loop .passed) (c .before .if12 .given) in
+    let e = sym read ∙ ap (signedOf integer4) (c .if1 .taken) ∙ known in
+    sym (run-failed (absent-run _ _) _ _ (c .before .before .loop-test .taken) (ap not (same-equal _ _ e)))
 
--- src/testing.rt:32:9
 add-passed : tie.Need-add-passed Inv-loop μ-loop
-add-passed c = ?
+add-passed c = omega arith
 
--- src/testing.rt:28:5
 loop-less : tie.Need-loop-less Inv-loop μ-loop
-loop-less c = ?
+loop-less c = omega arith
 
--- src/testing.rt:28:5
 loop-again : tie.Need-loop-again Inv-loop μ-loop
-loop-again c = ?
+loop-again c =
+    let known = toZ-ofZ (c .before .before .before .before .fits .identifier) in (
+      omega arith,
+      run-next (absent-run _ _) _ (c .before .before .before .loop .inv .1) ∙ ap not (same-other _ _ (λ q. c .if1 .left (ap (ofZ integer4) (q ∙ known)))),
+    )
 
--- src/testing.rt:23:1
 returns-2 : tie.Need-returns-2 Inv-loop μ-loop
-returns-2 c = ?
+returns-2 c =
+    let s = c .before .before in
+    let e : c .before .loop .passed ≡ s .args .count = omega arith in
+    sym (rw (e, toZ-ofZ (s .fits .identifier)) at (c .before .loop .inv .1))
 
 pub is-absent-spec : {M : Type 1} → statement M
 is-absent-spec =

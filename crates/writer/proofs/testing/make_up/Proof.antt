@@ -1,54 +1,75 @@
+-- `writer::testing::make_up` meets its contract. The loop's invariant: what is left and the lengths passed make up the bytes. Assumes nothing.
+use mathlib.Core.Path.{_≡_, refl, sym, _∙_}
+use mathlib.Core.Bool.{Bool, true, false}
+use Prim.Native.Nat.{ℕ, _+_, _*_, _-_, _/_, _≤_}
+use native.Mathlib.Omega.{arith}
+use borrow.Author.Needs.{needs}
+use borrow.Author.Tests.{eq-eqb, ne-eqb, eqb-true, eqb-false}
+use denote.Ref.{now}
+use lib.Dec.{eqb}
+use lib.IntN.{pos}
+use lib.ListN.{length, getD, take}
+use lib.Seq.{take-all}
+use Rattle.writer.specs.Handed.{wordsOf, sumOf}
+use Rattle.writer.proofs.TableBytes.{sum-next, sum-fewer, length-words}
 use Rattle.writer.proofs.testing.make_up.Statement.{statement}
 use Rattle.writer.proofs.testing.make_up.Tie as tie
-use Rattle.writer.proofs.testing.make_up.Reads as reads
-use Rattle.writer.proofs.testing.make_up.Lts as lts
-use Rattle.words.proofs.bits64.Reads as bits64-reads
+
+same-test : (a b c d : ℕ) → (a ≡ b → c ≡ d) → (c ≡ d → a ≡ b) → eqb a b ≡ eqb c d
+same-test a b c d there back = by (eqb a b) refl
+  where
+    by : (t : Bool) → eqb a b ≡ t → eqb a b ≡ eqb c d
+    by true e = e ∙ sym (eq-eqb c d (there (eqb-true a b e)))
+    by false e = e ∙ sym (ne-eqb c d (λ q. eqb-false a b e (back q)))
 
 abbrev Inv-loop : tie.InvT-loop
-Inv-loop lengths bytes left₀ passed₀ left passed = ?
+Inv-loop lengths bytes left₀ passed₀ left passed = (passed ≤ length lengths) × (left + sumOf (take passed lengths) ≡ bytes / 4)
 
 abbrev μ-loop : tie.MeasureT-loop
-μ-loop lengths bytes left₀ passed₀ left passed = ?
+μ-loop lengths bytes left₀ passed₀ left passed = length lengths - passed
 
--- src/testing.rt:73:9
 returns : tie.Need-returns Inv-loop μ-loop
-returns c = ?
+returns c = sym (ne-eqb (c .before .args .bytes) (4 * sumOf (now (c .before .args .lengths))) (λ q. c .if1 .taken (omega arith)))
 
--- src/testing.rt:77:5
 loop-holds : tie.Need-loop-holds Inv-loop μ-loop
-loop-holds c = ?
+loop-holds c = omega arith
 
--- src/testing.rt:78:35
 mul-bits64 : tie.Need-mul-bits64 Inv-loop μ-loop
-mul-bits64 c = ?
+mul-bits64 c = search needs
 
--- src/testing.rt:78:35
 shared-slice-copy-out-bits64 : tie.Need-shared-slice-copy-out-bits64 Inv-loop μ-loop
-shared-slice-copy-out-bits64 c = ?
+shared-slice-copy-out-bits64 c = search needs
 
--- src/testing.rt:78:13
 bits64-requires : tie.Need-bits64-requires Inv-loop μ-loop
-bits64-requires c κs = ?
+bits64-requires c κs = search needs
 
--- src/testing.rt:80:13
+-- what is taken off is the length passed
+words : (c : tie.After-bits64 Inv-loop μ-loop) → c .bits64 .result ≡ wordsOf (getD (now (c .before .before .before .before .before .args .lengths)) (c .before .before .before .loop .passed) (pos 0))
+words c = length-words _ _ _ (c .before .before .before .before .before .pre) (c .before .before .loop-test .taken) (c .before .bits64-arg .given) (c .bits64 .ensures)
+
 returns-2 : tie.Need-returns-2 Inv-loop μ-loop
-returns-2 c = ?
+returns-2 c =
+    let l = c .before .before .before .before .loop in
+    let lengths = now (c .before .before .before .before .before .before .args .lengths) in
+    sym (ne-eqb (c .before .before .before .before .before .before .args .bytes) (4 * sumOf lengths)
+    (λ q. omega (arith, words (c .before), sum-next lengths (l .passed) (omega arith), sum-fewer lengths (l .passed + 1))))
 
--- src/testing.rt:83:9
 add-passed : tie.Need-add-passed Inv-loop μ-loop
-add-passed c = ?
+add-passed c = omega arith
 
--- src/testing.rt:77:5
 loop-less : tie.Need-loop-less Inv-loop μ-loop
-loop-less c = ?
+loop-less c = omega arith
 
--- src/testing.rt:77:5
 loop-again : tie.Need-loop-again Inv-loop μ-loop
-loop-again c = ?
+loop-again c =
+    let l = c .before .before .before .before .loop in
+    omega (arith, words (c .before), sum-next (now (c .before .before .before .before .before .before .args .lengths)) (l .passed) (omega arith))
 
--- src/testing.rt:68:1
 returns-3 : tie.Need-returns-3 Inv-loop μ-loop
-returns-3 c = ?
+returns-3 c =
+    let s = c .before .before .before in
+    let all : sumOf (take (c .before .loop .passed) (now (s .args .lengths))) ≡ sumOf (now (s .args .lengths)) = rw (take-all _ _ (c .loop-test .left)) in
+    same-test (c .before .loop .left) 0 (s .args .bytes) (4 * sumOf (now (s .args .lengths))) (λ e. omega arith) (λ e. omega arith)
 
 pub make-up-spec : {M : Type 1} → statement M
 make-up-spec =

@@ -1,25 +1,33 @@
+-- `writer::testing::space_refusal` meets its contract: the entry's end does not wrap, and is tested as the table's one row. Assumes nothing.
+use Prim.Native.Nat.{_+_, _/_}
+use native.Mathlib.Omega.{arith}
+use borrow.Author.Tests.{le-leb, lt-leb}
 use borrow.Author.Needs.{needs}
+use Rattle.writer.specs.Placing.{entryStart}
+use Rattle.writer.specs.Rules.{spaceRefusal}
+use Rattle.writer.proofs.Places.{start-small}
 use Rattle.writer.proofs.testing.space_refusal.Statement.{statement}
 use Rattle.writer.proofs.testing.space_refusal.Tie as tie
-use Rattle.writer.proofs.testing.space_refusal.Reads as reads
-use Rattle.writer.proofs.testing.space_refusal.Lts as lts
-use Rattle.writer.proofs.placing.entry_start.Reads as entry-start-reads
 
--- src/testing.rt:147:20
 entry-start-requires : tie.Need-entry-start-requires
 entry-start-requires c κs = search needs
 
--- src/testing.rt:147:20
 add-if1 : tie.Need-add-if1
-add-if1 c = ?
+add-if1 c =
+    let s = c .before in
+    omega (arith, c .entry-start .ensures, start-small (s .args .d) (s .pre .0) (s .pre .2) (s .pre .4))
 
--- src/testing.rt:148:9
 returns : tie.Need-returns
-returns c = ?
+unfolding spaceRefusal
+returns c =
+    let a = c .before .before .args in
+    rw (lt-leb (entryStart (a .d) + a .nword) (a .bytes / 4) (omega (arith, c .before .entry-start .ensures)))
 
--- src/testing.rt:143:1
 returns-2 : tie.Need-returns-2
-returns-2 c = ?
+unfolding spaceRefusal
+returns-2 c =
+    let a = c .before .before .args in
+    rw (le-leb (entryStart (a .d) + a .nword) (a .bytes / 4) (omega (arith, c .before .entry-start .ensures)))
 
 pub space-refusal-spec : {M : Type 1} → statement M
 space-refusal-spec = tie.close (tie.spec entry-start-requires add-if1 returns returns-2)
