@@ -59,8 +59,13 @@ module _ (bytes : ℕ) (d : DescriptorNumbers) (addresses : List RecordNumber) (
 
   pub xnext-small : d .xnext .0 < 2 ^ 63
   xnext-small =
-      omega (arith, a .counted, a .settled .nex-high, fit-reach (growthIn d) (entriesBefore (d .xnext)) (d .nex) (a .fit),
-      total-limit (growthIn d) (d .nex) (d .nex) (omega arith) (a .settled .within))
+      omega (
+        arith,
+        a .counted,
+        a .settled .nex-high,
+        fit-reach (growthIn d) (entriesBefore (d .xnext)) (d .nex) (a .fit),
+        total-limit (growthIn d) (d .nex) (d .nex) (omega arith) (a .settled .within),
+      )
 
 -- ---- the accepted append
 
@@ -97,5 +102,9 @@ module _ (bytes : ℕ) (d : DescriptorNumbers) (addresses : List RecordNumber) (
   -- its index ends within the bytes lent
   pub slot-within : slotThen + d .lind ≤ bytes / 4
   slot-within =
-      omega (arith, lind-same, admitted-after .room,
-      slot-inside bytes after addressesThen admitted-after (d .xnext) (x .admitted .counted) (omega (arith, number-last)))
+      omega (
+        arith,
+        lind-same,
+        admitted-after .room,
+        slot-inside bytes after addressesThen admitted-after (d .xnext) (x .admitted .counted) (omega (arith, number-last)),
+      )

@@ -4,3 +4,4 @@ pub mod TableBytes
 pub mod Places
 pub mod Kept
 pub mod Accepting
+pub mod Answering

@@ -1,47 +1,56 @@
+-- `writer::appending::append` meets its contract: it validates, and appends from what that shows. Assumes nothing.
+use mathlib.Core.Path.{_≡_, sym, ap, _∙_}
+use Prim.Native.Nat.{ℕ}
+use Rattle.descriptor.specs.Answers.{numberOf}
+use Rattle.descriptor.proofs.Answered.{told}
+use Rattle.writer.specs.declared.inner.AppendedFrom.{AppendedFrom}
+use Rattle.writer.proofs.Answering.{append-by, file-by}
+use Rattle.writer.specs.Answers.{appendIn, fileIn}
+use mir.Facts.{toZ-ofZ}
 use borrow.Author.Needs.{needs}
 use Rattle.writer.proofs.appending.append.Statement.{statement}
 use Rattle.writer.proofs.appending.append.Tie as tie
-use Rattle.writer.proofs.appending.append.Reads as reads
-use Rattle.writer.proofs.appending.append.Lts as lts
-use Rattle.descriptor.proofs.refusal_of.Reads as refusal-of-reads
-use Rattle.descriptor.proofs.validate.Reads as validate-reads
-use Rattle.writer.proofs.inner.append_from.Reads as append-from-reads
 
--- src/appending.rt:32:9
 validate-requires : tie.Need-validate-requires
 validate-requires c κs = search needs
 
--- src/appending.rt:34:28
 enum-known-case : tie.Need-enum-known-case
 enum-known-case c = search needs
 
--- src/appending.rt:36:22
 enum-told : tie.Need-enum-told
 enum-told c = search needs
 
--- src/appending.rt:36:22
 refusal-of-requires : tie.Need-refusal-of-requires
 refusal-of-requires c κs = search needs
 
--- src/appending.rt:35:9
 same-length : tie.Need-same-length
 same-length c = search needs
 
--- src/appending.rt:35:9
 returns : tie.Need-returns
-returns c = ?
+unfolding appendIn fileIn
+returns c =
+    let v = c .before .before .before .validate in
+    let t = c .before .enum-told .given .1 in
+    let file = c .before .before .before .before .before .before .before .before .before .args .file .now in
+    let n = c .refusal-of .ensures ∙ ap numberOf t in
+    (ap (λ (k : ℕ). record { refusal = k; number = record { 0 = 0 } }) n ∙ sym (append-by file (v .result) _ (v .ensures) t _), sym (file-by file (v .result) _ (v .ensures) t _))
 
--- src/appending.rt:41:9
 append-from-requires : tie.Need-append-from-requires
-append-from-requires c κs = ?
+append-from-requires c κs =
+    let v = c .before .before .before .before .before .validate in
+    told (c .before .before .before .before .before .before .before .before .before .before .before .args .file .now) (v .result) (c .before .before .before .case .given .0 .0) (v .ensures) (c .before .before .before .case .given .1) .admitted
 
--- src/appending.rt:20:1
 same-length-2 : tie.Need-same-length-2
 same-length-2 c = search needs
 
--- src/appending.rt:20:1
 returns-2 : tie.Need-returns-2
-returns-2 c = ?
+unfolding appendIn fileIn
+returns-2 c =
+    let s = c .before .before .before .before .before .before .before .before .before .before .before .before .before .before .before in
+    let v = c .before .before .before .before .before .before .before .before .before .validate in
+    let t = c .before .before .before .before .before .before .before .case .given .1 in
+    let a = rw (toZ-ofZ (s .fits .version)) at (c .before .before .before .append-from .ensures) in
+    (ap (λ (x : AppendedFrom). record { refusal = x .refusal; number = x .number }) (a .0) ∙ sym (append-by (s .args .file .now) (v .result) _ (v .ensures) t _), a .1 ∙ sym (file-by (s .args .file .now) (v .result) _ (v .ensures) t _))
 
 pub append-spec : {M : Type 1} → statement M
 append-spec =

@@ -64,7 +64,7 @@ index-stored : (c : tie.After-put-slot) → let s = (c .before .before .before .
     ≡ writes (entryWritten (areaWritten (s .args .file .now) d) d (handed s))
     (slotWrites (slotPositionOf (numbersAfter d (entryStart d + nwordIn (handed s))) (addressesAfter d (s .args .addresses)) (d .xnext)) (placeOf (d .reclen) (entryStart d)) (handed s .index))
 index-stored c =
-    rw ((c .before .before .before .before .before .before .before .before .before .before .before .before .before .before .before .before .before .before .before .before .before .before .before .before .before) .entry-start .ensures, entry-stored (c .before .before .before .before .before), slotted (c .before .before .before .before .before .before .before .before .before .before .before .before .before .before .before .before .before .before .before .before), c .before .place-at .ensures) at (c .put-slot .ensures)
+    rw (entry-stored (c .before .before .before .before .before), slotted (c .before .before .before .before .before .before .before .before .before .before .before .before .before .before .before .before .before .before .before .before), c .before .place-at .ensures, (c .before .before .before .before .before .before .before .before .before .before .before .before .before .before .before .before .before .before .before .before .before .before .before .before .before) .entry-start .ensures) at (c .put-slot .ensures)
 
 entry-start-requires : tie.Need-entry-start-requires
 entry-start-requires c κs = search needs
@@ -73,40 +73,40 @@ head-of-requires : tie.Need-head-of-requires
 head-of-requires c κs = search needs
 
 add-numbers-after : tie.Need-add-numbers-after
-add-numbers-after c = 
+add-numbers-after c =
     let s = (c .before .before .before .before .before .before .before .before) in
     let x = accepted s in
     omega (arith, entry-small _ _ _ _ x, (c .before .before) .entry-start .ensures, ap (λ (r : Head). r .nword) (headed (c .before)), head-nword (handed s) (s .args .d .xnext))
 
 numbers-after-requires : tie.Need-numbers-after-requires
-numbers-after-requires c κs = 
+numbers-after-requires c κs =
     let s = (c .before .before .before .before .before .before .before .before) in
     let x = accepted s in
     let n = ap (λ (r : Head). r .nword) (headed (c .before)) ∙ head-nword (handed s) (s .args .d .xnext) in
     (x .admitted .settled, xnext-small _ _ _ (x .admitted), s .pre .1, omega (arith, entry-small _ _ _ _ x, (c .before .before) .entry-start .ensures, n))
 
 addresses-after-requires : tie.Need-addresses-after-requires
-addresses-after-requires c κs = 
+addresses-after-requires c κs =
     let s = (c .before .before .before .before .before .before .before .before .before) in
     let x = accepted s in
     (x .admitted .settled, x .admitted .free, free-small _ _ _ (x .admitted), s .pre .1, x .extensible)
 
 slot-position-requires : tie.Need-slot-position-requires
-slot-position-requires c κs = 
+slot-position-requires c κs =
     let s = (c .before .before .before .before .before .before .before .before .before .before) in
     let x = accepted s in
     let n = numbered (c .before) in
     rw (n, c .addresses-after .ensures) (admitted-after _ _ _ _ x, x .admitted .counted, omega (arith, number-last _ _ _ _ x))
 
 put-area-requires : tie.Need-put-area-requires
-put-area-requires c κs = 
+put-area-requires c κs =
     let s = (c .before .before .before .before .before .before .before .before .before .before .before .before) in
     let x = accepted s in
     let e = (c .before .before .before .before .before .before) .entry-start .ensures in
     (x .admitted .settled, x .admitted .free, free-small _ _ _ (x .admitted), s .pre .1, x .extensible, e, omega (arith, e, entry-small _ _ _ _ x), omega (arith, e, entry-within _ _ _ _ x), x .admitted .lent .first)
 
 put-head-requires : tie.Need-put-head-requires
-put-head-requires c κs = 
+put-head-requires c κs =
     let s = (c .before .before .before .before .before .before .before .before .before .before .before .before .before .before .before .before) in
     let x = accepted s in
     let e = (c .before .before .before .before .before .before .before .before .before .before) .entry-start .ensures in
@@ -114,7 +114,7 @@ put-head-requires c κs =
     (omega (arith, e, entry-small _ _ _ _ x), omega (arith, e, entry-within _ _ _ _ x, (c .before .before .before) .put-area .kept .0), omega (arith, n, x .fitting .few))
 
 put-tables-requires : tie.Need-put-tables-requires
-put-tables-requires c κs = 
+put-tables-requires c κs =
     let s = (c .before .before .before .before .before .before .before .before .before .before .before .before .before .before .before .before .before .before .before .before) in
     let x = accepted s in
     let e = (c .before .before .before .before .before .before .before .before .before .before .before .before .before .before) .entry-start .ensures in
@@ -122,19 +122,19 @@ put-tables-requires c κs =
     (omega (arith, e, entry-small _ _ _ _ x), f .few, f .pairs, omega (arith, e, entry-within _ _ _ _ x, (c .before .before .before .before .before .before .before) .put-area .kept .0, (c .before .before .before) .put-head .kept .0), f .counted, omega (arith, entry-small _ _ _ _ x))
 
 mul-put-content : tie.Need-mul-put-content
-mul-put-content c = 
+mul-put-content c =
     let s = (c .before .before .before .before .before .before .before .before .before .before .before .before .before .before .before .before .before .before .before .before .before .before .before .before .before) in
     let x = accepted s in
     omega (arith, ap (λ (r : Head). r .nsec) (headed (c .before .before .before .before .before .before .before .before .before .before .before .before .before .before .before .before .before .before)) ∙ head-nsec (handed s) (s .args .d .xnext), x .fitting .few)
 
 add-put-content : tie.Need-add-put-content
-add-put-content c = 
+add-put-content c =
     let s = (c .before .before .before .before .before .before .before .before .before .before .before .before .before .before .before .before .before .before .before .before .before .before .before .before .before) in
     let x = accepted s in
     omega (arith, ap (λ (r : Head). r .nsec) (headed (c .before .before .before .before .before .before .before .before .before .before .before .before .before .before .before .before .before .before)) ∙ head-nsec (handed s) (s .args .d .xnext), x .fitting .few)
 
 put-content-requires : tie.Need-put-content-requires
-put-content-requires c κs = 
+put-content-requires c κs =
     let s = (c .before .before .before .before .before .before .before .before .before .before .before .before .before .before .before .before .before .before .before .before .before .before .before .before .before) in
     let x = accepted s in
     let e = (c .before .before .before .before .before .before .before .before .before .before .before .before .before .before .before .before .before .before .before) .entry-start .ensures in
@@ -143,23 +143,25 @@ put-content-requires c κs =
     (omega arith, omega (arith, e, n, entry-small _ _ _ _ x, f .few), omega (arith, e, n, entry-within _ _ _ _ x, f .sections, value-bytes _ _ f, (c .before .before .before .before .before .before .before .before .before .before .before .before) .put-area .kept .0, (c .before .before .before .before .before .before .before .before) .put-head .kept .0, (c .before .before .before .before) .put-tables .kept .0))
 
 place-at-requires : tie.Need-place-at-requires
-place-at-requires c κs = 
+place-at-requires c κs =
     let s = (c .before .before .before .before .before .before .before .before .before .before .before .before .before .before .before .before .before .before .before .before .before .before .before .before .before .before .before .before .before) in
     let x = accepted s in
     omega (arith, (c .before .before .before .before .before .before .before .before .before .before .before .before .before .before .before .before .before .before .before .before .before .before .before) .entry-start .ensures, entry-small _ _ _ _ x, x .admitted .settled .reclen-low, x .admitted .settled .reclen-high)
 
 put-slot-requires : tie.Need-put-slot-requires
-put-slot-requires c κs = 
+put-slot-requires c κs =
     let s = (c .before .before .before .before .before .before .before .before .before .before .before .before .before .before .before .before .before .before .before .before .before .before .before .before .before .before .before .before .before .before) in
     let x = accepted s in
     let p = slotted (c .before .before .before .before .before .before .before .before .before .before .before .before .before .before .before .before .before .before .before) in
     let a = x .admitted .settled in
-    let i = slot-within _ _ _ _ x in
-    (omega (arith, p, i, x .admitted .lent .high), rw (c .place-at .ensures) (omega (arith, place-word (s .args .d .reclen) ((c .before .before .before .before .before .before .before .before .before .before .before .before .before .before .before .before .before .before .before .before .before .before .before .before) .entry-start .result) (omega (arith, a .reclen-low)), a .reclen-high)),
-    omega (arith, p, i, a .lind-low, x .fitting .index, (c .before .before .before .before .before .before .before .before .before .before .before .before .before .before .before .before .before) .put-area .kept .0, (c .before .before .before .before .before .before .before .before .before .before .before .before .before) .put-head .kept .0, (c .before .before .before .before .before .before .before .before .before) .put-tables .kept .0, (c .before .before .before .before) .put-content .kept .0))
+    let i = slot-within _ _ _ _ x in (
+      omega (arith, p, i, x .admitted .lent .high),
+      rw (c .place-at .ensures) (omega (arith, place-word (s .args .d .reclen) ((c .before .before .before .before .before .before .before .before .before .before .before .before .before .before .before .before .before .before .before .before .before .before .before .before) .entry-start .result) (omega (arith, a .reclen-low)), a .reclen-high)),
+      omega (arith, p, i, a .lind-low, x .fitting .index, (c .before .before .before .before .before .before .before .before .before .before .before .before .before .before .before .before .before) .put-area .kept .0, (c .before .before .before .before .before .before .before .before .before .before .before .before .before) .put-head .kept .0, (c .before .before .before .before .before .before .before .before .before) .put-tables .kept .0, (c .before .before .before .before) .put-content .kept .0),
+    )
 
 put-counts-requires : tie.Need-put-counts-requires
-put-counts-requires c κs = 
+put-counts-requires c κs =
     let s = (c .before .before .before .before .before .before .before .before .before .before .before .before .before .before .before .before .before .before .before .before .before .before .before .before .before .before .before .before .before .before .before .before .before .before) in
     let x = accepted s in
     let b = admitted-after _ _ _ _ x in
@@ -170,7 +172,7 @@ same-length c = omega (arith, (c .before .before .before .before .before .before
 
 returns : tie.Need-returns
 unfolding appended indexWritten
-returns c = 
+returns c =
     let s = (c .before .before .before .before .before .before .before .before .before .before .before .before .before .before .before .before .before .before .before .before .before .before .before .before .before .before .before .before .before .before .before .before .before .before .before .before .before) in
     let n = numbered (c .before .before .before .before .before .before .before .before .before .before .before .before .before .before .before .before .before .before .before .before .before .before .before .before .before .before .before .before) in
     (rw (n, (c .before .before .before .before .before .before .before .before .before .before .before .before .before .before .before .before .before .before .before .before .before .before .before .before .before .before .before) .addresses-after .ensures), rw (index-stored (c .before .before .before .before .before .before), n) at ((c .before .before) .put-counts .ensures))

@@ -1,0 +1,16 @@
+-- The answer of an append and the file after it, by the case of the validation. Assumes nothing.
+use Prim.Native.Nat.{ℕ}
+use mathlib.Core.Path.{_≡_}
+use mathlib.Core.List.{List}
+use Rattle.descriptor.specs.declared.validating.Validation.{Validation}
+use Rattle.descriptor.specs.declared.validating.Validated.{Validated}
+use Rattle.descriptor.specs.Answers.{validationOf}
+use Rattle.writer.specs.Handed.{Handed}
+use Rattle.writer.specs.Answers.{appendIn, fileIn, appendOf, fileAfter}
+
+module _ (file : List ℕ) (v : Validation) (case : Validated) (e : v ≡ validationOf file) (q : v .numbers ≡ case) (h : Handed) where
+  pub append-by : appendOf file h ≡ appendIn file case (v .addresses) h
+  append-by = rw (← e, ← q)
+
+  pub file-by : fileAfter file h ≡ fileIn file case (v .addresses) h
+  file-by = rw (← e, ← q)
