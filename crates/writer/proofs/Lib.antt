@@ -5,3 +5,4 @@ pub mod Places
 pub mod Kept
 pub mod Accepting
 pub mod Answering
+pub mod Frame
