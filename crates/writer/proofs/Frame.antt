@@ -40,7 +40,7 @@ module _ (a n : ℕ) where
   numeral-beside b m at width x h l g = rw (length-numeral width x) (beside-part a n b m at width h l g)
 
   -- the counts change words 7 to 11 of the first record
-  counts-keep : (file : List ℕ) (d : DescriptorNumbers) → Beside a n 24 20 → part (writes file (countWrites d)) a n ≡ part file a n
+  pub counts-keep : (file : List ℕ) (d : DescriptorNumbers) → Beside a n 24 20 → part (writes file (countWrites d)) a n ≡ part file a n
   counts-keep file d b =
       writes-keep file (countWrites d) a n (
         numeral-beside 24 20 24 8 (d .xnext .0) b (omega arith) (omega arith),
@@ -51,7 +51,7 @@ module _ (a n : ℕ) where
       )
 
   -- the index changes its slot of lind words
-  slot-keep : (file : List ℕ) (slot lind : ℕ) (place : Place) (index : List ℕ) → 3 ≤ lind → length index ≡ 4 * (lind - 3)
+  pub slot-keep : (file : List ℕ) (slot lind : ℕ) (place : Place) (index : List ℕ) → 3 ≤ lind → length index ≡ 4 * (lind - 3)
       → Beside a n (4 * slot) (4 * lind) → part (writes file (slotWrites slot place index)) a n ≡ part file a n
   slot-keep file slot lind place index low e b =
       writes-keep file (slotWrites slot place index) a n (
@@ -64,7 +64,7 @@ module _ (a n : ℕ) where
 
   module _ (file : List ℕ) (d : DescriptorNumbers) where
     -- the entry changes nothing before it
-    entry-keep : (h : Handed) → a + n ≤ 4 * entryStart d → part (entryWritten file d h) a n ≡ part file a n
+    pub entry-keep : (h : Handed) → a + n ≤ 4 * entryStart d → part (entryWritten file d h) a n ≡ part file a n
     unfolding entryWritten
     entry-keep h l =
         let start = entryStart d in

@@ -91,7 +91,7 @@ in-use g n zero e h = absurd (h (omega (arith, eqb-true n 0 (rw (fit-none g n) a
 in-use g n (suc k) e h = omega arith
 
 -- by whether the extensions in use are full
-either {ℓ} : {X : Type ℓ} (b : Bool) → (b ≡ true → X) → (b ≡ false → X) → X
+pub either {ℓ} : {X : Type ℓ} (b : Bool) → (b ≡ true → X) → (b ≡ false → X) → X
 either true f g = f refl
 either false f g = g refl
 

@@ -6,3 +6,4 @@ pub mod Kept
 pub mod Accepting
 pub mod Answering
 pub mod Frame
+pub mod ReadBack
