@@ -1,0 +1,18 @@
+-- A table that is filled place by place with what a function makes of another table's places is that table, mapped. Assumes nothing.
+use Prim.Native.Nat.{ℕ}
+use mathlib.Core.Path.{_≡_, refl, ap}
+use mathlib.Core.List.{List, [], _∷_, map}
+use lib.ListN.{length, getD}
+use Rattle.words.specs.Table.{places}
+
+module _ {A : Type 0} (f : A → ℕ) (blank : A) where
+  -- what stands at a place of the new table
+  abbrev pub place : List A → ℕ → ℕ
+  place xs i = f (getD xs i blank)
+
+  whole : (xs : List A) → places (length xs) (length xs) (place xs) 0 ≡ map f xs
+  whole [] = refl
+  whole (x ∷ xs) = ap (λ (l : List ℕ). f x ∷ l) (whole xs)
+
+  pub all-filled : (n : ℕ) (xs : List A) → length xs ≡ n → places n n (place xs) 0 ≡ map f xs
+  all-filled n xs e = rw (← e) (whole xs)

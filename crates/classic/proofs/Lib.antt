@@ -1,0 +1,5 @@
+-- The laws of `classic`, and worked examples.
+pub mod Filled
+pub mod Narrow
+pub mod Crossing
+pub mod Examples

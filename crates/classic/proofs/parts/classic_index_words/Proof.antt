@@ -1,0 +1,25 @@
+-- `classic::parts::classic_index_words` meets its contract: the place lies within the file. Assumes nothing.
+use mathlib.Core.Path.{ap, _∙_}
+use lib.ListN.{length}
+use Rattle.entry.proofs.Handing.{Inside, index-words-inside}
+use Rattle.classic.specs.Answers.{partFor}
+use borrow.Author.Needs.{needs}
+use Rattle.classic.proofs.parts.classic_index_words.Statement.{statement}
+use Rattle.classic.proofs.parts.classic_index_words.Tie as tie
+
+inside : (c : tie.After-index-words-place) → Inside (length (c .before .before .args .file .now)) (c .index-words-place .result)
+inside c =
+    let a = c .before .before .args in
+    rw (c .index-words-place .ensures) (index-words-inside (a .file .now) (record { 0 = a .entry }))
+
+index-words-place-requires : tie.Need-index-words-place-requires
+index-words-place-requires c κs = search needs
+
+part-at-requires : tie.Need-part-at-requires
+part-at-requires c κs = inside c .ordered
+
+returns : tie.Need-returns
+returns c = c .part-at .ensures ∙ ap partFor (c .before .index-words-place .ensures)
+
+pub classic-index-words-spec : {M : Type 1} → statement M
+classic-index-words-spec = tie.close (tie.spec index-words-place-requires part-at-requires returns)

@@ -1,0 +1,30 @@
+-- `classic::parts::classic_section` meets its contract: the place lies within the file. Assumes nothing.
+use mathlib.Core.Path.{_≡_, ap, _∙_}
+use lib.ListN.{length}
+use mir.Facts.{toZ-ofZ}
+use Rattle.entry.specs.Answers.{sectionWordsOf}
+use Rattle.entry.proofs.Handing.{Inside, section-words-inside}
+use Rattle.classic.specs.Answers.{partFor}
+use borrow.Author.Needs.{needs}
+use Rattle.classic.proofs.parts.classic_section.Statement.{statement}
+use Rattle.classic.proofs.parts.classic_section.Tie as tie
+
+placed : (c : tie.After-section-place) → let a = c .before .before .args in c .section-place .result ≡ sectionWordsOf (a .file .now) (record { 0 = a .entry }) (a .identifier)
+placed c = rw (toZ-ofZ (c .before .before .fits .identifier)) at (c .section-place .ensures)
+
+inside : (c : tie.After-section-place) → Inside (length (c .before .before .args .file .now)) (c .section-place .result)
+inside c =
+    let a = c .before .before .args in
+    rw (placed c) (section-words-inside (a .file .now) (record { 0 = a .entry }) (a .identifier))
+
+section-place-requires : tie.Need-section-place-requires
+section-place-requires c κs = search needs
+
+part-at-requires : tie.Need-part-at-requires
+part-at-requires c κs = inside c .ordered
+
+returns : tie.Need-returns
+returns c = c .part-at .ensures ∙ ap partFor (placed (c .before))
+
+pub classic-section-spec : {M : Type 1} → statement M
+classic-section-spec = tie.close (tie.spec section-place-requires part-at-requires returns)

@@ -1,0 +1,2 @@
+-- What the contracts of `classic` cite beside the definitions of the crates below.
+pub mod Answers

@@ -1,0 +1,29 @@
+// Appending an entry, for C.
+use super::answers::ClassicAppended;
+use writer::append;
+ghost use mathlib.Core.Path.{_≡_};
+ghost use Rattle.writer.specs.Handed.{handedIn};
+ghost use Rattle.writer.specs.Answers.{appendOf, fileAfter};
+ghost use Rattle.classic.specs.Answers.{appendedFor};
+
+// Appends an entry: its version, the application's index words, its sections by identifiers, lengths
+// and bytes one after another, and its data. Answers its number, or the refusal.
+#[no_mangle]
+pub extern "C" fn classic_append(
+    file: &mut [u8],
+    version: i32,
+    index: &[u8],
+    ids: &[i32],
+    lengths: &[i64],
+    sections: &[u8],
+    values: &[u8],
+) -> ClassicAppended
+    ensures answer { λ r. ⌜ r ≡ appendedFor (appendOf (now (file .entry)) (handedIn version (now (index .entry)) (now (ids .entry)) (now (lengths .entry)) (now (sections .entry)) (now (values .entry)))) ⌝ }
+    ensures bytes { λ r. ⌜ now (file .exit) ≡ fileAfter (now (file .entry)) (handedIn version (now (index .entry)) (now (ids .entry)) (now (lengths .entry)) (now (sections .entry)) (now (values .entry))) ⌝ }
+{
+    let appended = append(file, version, index, ids, lengths, sections, values);
+    ClassicAppended {
+        refusal: appended.refusal,
+        number: appended.number.0,
+    }
+}

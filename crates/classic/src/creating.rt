@@ -1,0 +1,26 @@
+// Creating a file, for C.
+use super::answers::ClassicSettings;
+use descriptor::Settings;
+use writer::create;
+ghost use mathlib.Core.Path.{_≡_};
+ghost use lib.ListN.{length};
+ghost use Rattle.writer.specs.Creation.{creationRefusal, createdFile};
+ghost use Rattle.classic.specs.Answers.{settingsFrom};
+
+// Writes the first record of a file with no entries. Answers 0, or the refusal.
+#[no_mangle]
+pub extern "C" fn classic_create(file: &mut [u8], settings: ClassicSettings) -> u32
+    ensures answer { λ r. ⌜ r ≡ creationRefusal (length (now (file .entry))) (settingsFrom settings) ⌝ }
+    ensures bytes { λ r. ⌜ now (file .exit) ≡ createdFile (now (file .entry)) (settingsFrom settings) ⌝ }
+{
+    let chosen = Settings {
+        reclen: settings.reclen,
+        kind: settings.kind,
+        vind: settings.vind,
+        lind: settings.lind,
+        flags: settings.flags,
+        lex1: settings.lex1,
+        gex: settings.gex,
+    };
+    create(file, chosen)
+}

@@ -1,0 +1,67 @@
+// The library as its callers have it: the calls for C (include/classic.h), and the public calls and
+// types of the crates below for Rattle products.
+//
+// Each `classic_` function makes one call of a crate below, puts the answer into a struct for C, and
+// promises that call's own definition; specs/Answers.antt says which field is which. No call has a
+// premise. What the border assumes of a caller in C, and cannot prove: each pointer leads to as many
+// elements as its count says, aligned for their type, and the buffers of one call do not overlap.
+mod answers;
+mod appending;
+mod checking;
+mod creating;
+mod opening;
+mod parts;
+mod tables;
+mod validating;
+
+pub use answers::ClassicAppended;
+pub use answers::ClassicChecked;
+pub use answers::ClassicDescriptor;
+pub use answers::ClassicEntry;
+pub use answers::ClassicExtension;
+pub use answers::ClassicPart;
+pub use answers::ClassicSettings;
+pub use appending::classic_append;
+pub use checking::classic_check;
+pub use creating::classic_create;
+pub use descriptor::DescriptorNumbers;
+pub use descriptor::Extension;
+pub use descriptor::Settings;
+pub use descriptor::Validated;
+pub use descriptor::Validation;
+pub use descriptor::extension_of;
+pub use descriptor::refusal_of;
+pub use descriptor::validate;
+pub use entry::DataAddress;
+pub use entry::DataPlace;
+pub use entry::Open;
+pub use entry::Opened;
+pub use entry::PartPlace;
+pub use entry::Sections;
+pub use entry::data_array;
+pub use entry::data_array_place;
+pub use entry::data_array_refusal;
+pub use entry::index_words;
+pub use entry::index_words_place;
+pub use entry::index_words_refusal;
+pub use entry::open_entry;
+pub use entry::section;
+pub use entry::section_place;
+pub use entry::section_refusal;
+pub use geometry::EntryAddress;
+pub use geometry::EntryNumber;
+pub use geometry::ExtensionNumber;
+pub use geometry::Place;
+pub use geometry::RecordNumber;
+pub use geometry::WordNumber;
+pub use opening::classic_open;
+pub use order::Checked;
+pub use order::check_order;
+pub use parts::classic_data;
+pub use parts::classic_index_words;
+pub use parts::classic_section;
+pub use validating::classic_extension_of;
+pub use validating::classic_validate;
+pub use writer::Appended;
+pub use writer::append;
+pub use writer::create;

@@ -1,0 +1,75 @@
+// A file's descriptor and its extensions, for C.
+use super::answers::ClassicDescriptor;
+use super::answers::ClassicExtension;
+use super::tables::record_numbers;
+use descriptor::Validated;
+use descriptor::extension_of;
+use descriptor::refusal_of;
+use descriptor::validate;
+use geometry::ExtensionNumber;
+ghost use mathlib.Core.Path.{_≡_};
+ghost use Rattle.descriptor.specs.Answers.{validationOf, extensionOf};
+ghost use Rattle.classic.specs.Answers.{descriptorFor, extensionFor, noDescriptor};
+
+// A descriptor with a refusal.
+fn refused(refusal: u32) -> ClassicDescriptor
+    ensures { λ r. ⌜ r ≡ noDescriptor refusal ⌝ }
+{
+    ClassicDescriptor {
+        refusal,
+        reclen: 0,
+        kind: 0,
+        vind: 0,
+        lind: 0,
+        flags: 0,
+        xnext: 0,
+        nextrec: 0,
+        nextword: 0,
+        lex1: 0,
+        nex: 0,
+        gex: 0,
+        aex: [0u64; 16],
+    }
+}
+
+// The file's descriptor, or the refusal.
+#[no_mangle]
+pub extern "C" fn classic_validate(file: &[u8]) -> ClassicDescriptor
+    ensures { λ r. ⌜ r ≡ descriptorFor (validationOf (now (file .entry))) ⌝ }
+{
+    let validation = validate(file);
+    let case = validation.numbers;
+    let Validated::Numbers(d) = case else {
+        return refused(refusal_of(case));
+    };
+    let addresses = validation.addresses;
+    ClassicDescriptor {
+        refusal: 0,
+        reclen: d.reclen as u32,
+        kind: d.kind as u32,
+        vind: d.vind as u32,
+        lind: d.lind as u32,
+        flags: d.flags as u32,
+        xnext: d.xnext.0,
+        nextrec: d.nextrec.0,
+        nextword: d.nextword.0 as u32,
+        lex1: d.lex1 as u32,
+        nex: d.nex as u32,
+        gex: d.gex as u32,
+        aex: record_numbers(addresses),
+    }
+}
+
+// An extension by its number, or the refusal.
+#[no_mangle]
+pub extern "C" fn classic_extension_of(file: &[u8], number: u64) -> ClassicExtension
+    ensures { λ r. ⌜ r ≡ extensionFor (extensionOf (now (file .entry)) (record { 0 = number })) ⌝ }
+{
+    let extension = extension_of(file, ExtensionNumber(number));
+    ClassicExtension {
+        refusal: extension.refusal,
+        capacity: extension.capacity,
+        first: extension.first.0,
+        records: extension.records,
+    }
+}

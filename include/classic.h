@@ -1,0 +1,157 @@
+/* CLASSIC data containers, version 2 (IRAM memo 2013-2): a reader and writer over a file image that the
+   caller lends. Link with libclassic.a; no call allocates, keeps state or does input and output. */
+#ifndef CLASSIC_H
+#define CLASSIC_H
+
+#include <stddef.h>
+#include <stdint.h>
+
+#ifdef __cplusplus
+extern "C" {
+#endif
+
+/* Units. A word is 4 bytes, a record is reclen words. Record numbers, word numbers within a record, entry
+   numbers, extension numbers and the addresses within an entry are counted from 1: address 1 is the first word
+   of the entry. Capacities are in entries, lengths of sections and data in words. Only what is named in bytes
+   (counts of lent bytes, and the start and length of a part) is in bytes, and a part's start alone is counted
+   from 0.
+
+   Lending. The file is the caller's whole buffer; bytes past the next free word are free room and mean nothing.
+   Every buffer belongs to the caller, is used during the call only, and is never kept or freed. A call reads
+   and writes within the given counts only. What is passed as const is not changed; create and append change the
+   file when they accept, and no byte of it when they refuse. The buffers of one call must not overlap: append's
+   file, index words, identifiers, lengths, section bytes and data are apart. The file and byte buffers need
+   no alignment; ids and lengths are aligned as their types are. An empty buffer may be (NULL, 0). Calls that
+   only read may share a file between threads.
+
+   Answers are given by value and belong to the caller. A part is a place in the lent file, not a copy: its bytes
+   are file + start to file + start + length, as long as the file is lent and unchanged. Each answer has a
+   refusal, 0 when the call accepts; a refused call gives zeros elsewhere, only a check adds an entry number. */
+
+/* The refusals, in the order in which they are tested: a call gives the first that applies. Every call but create
+   tests 1 to 11; create tests 1 and 3 to 8 on its settings. extension_of adds 12; open, index_words and data add
+   12 to 19, section adds 20 to these; append adds 21 to 24; check adds 13 to 19 for each entry, and 25. */
+enum classic_refusal {
+    CLASSIC_ACCEPTED = 0,        /* no refusal */
+    CLASSIC_LENT_SHORT = 1,      /* fewer than 64 bytes are lent */
+    CLASSIC_FILE_CODE = 2,       /* the file code is not "2A  " */
+    CLASSIC_RECLEN = 3,          /* reclen is not 16 to 4,096 */
+    CLASSIC_LENT_LENGTH = 4,     /* the lent length is over 2^30 bytes or not whole records */
+    CLASSIC_KIND = 5,            /* kind is not 1, 2 or 3 */
+    CLASSIC_INDEX_FORM = 6,      /* vind is below 2, or lind is not 3 to 256 */
+    CLASSIC_FLAGS = 7,           /* flags is not 0 or 1 */
+    CLASSIC_GROWTH = 8,          /* lex1 is not 1 to 4,096, gex not 10 to 20, nex not 0 to mex, or a capacity over 16,384 */
+    CLASSIC_ENTRY_COUNT = 9,     /* xnext is below 1, or the number of entries does not fit nex */
+    CLASSIC_NEXT_FREE = 10,      /* nextrec is below 2, nextword not 1 to reclen, or the next free word past the file's end */
+    CLASSIC_INDEX_AREA = 11,     /* an index area starts too early, or the last one ends past the next free word */
+    CLASSIC_NUMBER = 12,         /* the entry or extension number is 0 or above the last */
+    CLASSIC_ENTRY_PLACE = 13,    /* the entry's record is below 2, its word not 1 to reclen, or its first 11 words not in use */
+    CLASSIC_ENTRY_CODE = 14,     /* the entry code is not "2   " */
+    CLASSIC_ENTRY_LENGTH = 15,   /* nsec is not 0 to 64, nword too small for it, or the entry ends past the next free word */
+    CLASSIC_ENTRY_XNUM = 16,     /* the entry's own number is not the number asked */
+    CLASSIC_DATA_PLACE = 17,     /* ldata is below 0, or the data does not stand within the entry's content */
+    CLASSIC_SECTION_PLACE = 18,  /* a section has no word, or does not stand within the entry's content */
+    CLASSIC_SHARED_WORD = 19,    /* two of the sections and the data share a word */
+    CLASSIC_NO_SECTION = 20,     /* the entry has no section with the identifier */
+    CLASSIC_APPEND_INDEX = 21,   /* append: the index words are not 4 x (lind - 3) bytes */
+    CLASSIC_APPEND_PARTS = 22,   /* append: over 64 identifiers, lengths not as many, a repeated identifier, a length
+                                    below 1, section bytes not 4 x the sum of the lengths, or data not whole words */
+    CLASSIC_APPEND_EXTENSION = 23, /* append: a new extension is needed, and nex is mex or its capacity over 16,384 */
+    CLASSIC_APPEND_ROOM = 24,    /* append: the entry, with a new index area if it needs one, would end past the file's end */
+    CLASSIC_ORDER = 25           /* check: an entry starts before the end of what comes before it, or ends past the
+                                    start of the index area that comes after it */
+};
+
+/* The descriptor of a file. aex has the first record of each index area, zero past nex. */
+typedef struct {
+    uint32_t refusal, reclen, kind, vind, lind, flags;
+    uint64_t xnext, nextrec;
+    uint32_t nextword, lex1, nex, gex;
+    uint64_t aex[16];
+} classic_descriptor;
+
+/* An extension: its capacity in entries, the first record of its index area, and the area's count of records. */
+typedef struct {
+    uint32_t refusal;
+    uint64_t capacity, first, records;
+} classic_extension;
+
+/* An opened entry: its start record and word, its numbers as stored (adata also where ldata is 0), and its sections
+   in the stored order. The places past nsec hold zero. */
+typedef struct {
+    uint32_t refusal;
+    uint64_t record;
+    uint32_t word;
+    int32_t version;
+    uint32_t nsec;
+    uint64_t nword;
+    int64_t adata;
+    uint64_t ldata;
+    int32_t ids[64];
+    uint64_t lengths[64], addresses[64];
+} classic_entry;
+
+/* A part of the lent file in bytes: its start, counted from 0, and its length. A refusal and an entry with no data
+   give start 0 and length 0; only the refusal tells them apart. With lind 3 the index words are the empty part at
+   their place. */
+typedef struct {
+    uint32_t refusal;
+    uint64_t start, length;
+} classic_part;
+
+/* An append: the number of the new entry. */
+typedef struct {
+    uint32_t refusal;
+    uint64_t number;
+} classic_appended;
+
+/* An order check: 0 and 0 when all is in order; else the first failing entry and its refusal, with entry 0 where the
+   descriptor is refused. */
+typedef struct {
+    uint64_t entry;
+    uint32_t refusal;
+} classic_checked;
+
+/* The settings of a new file. */
+typedef struct {
+    int32_t reclen, kind, vind, lind, flags, lex1, gex;
+} classic_settings;
+
+/* Writes the first record of a file with no entries, and answers the refusal. Later bytes stay. */
+uint32_t classic_create(uint8_t *file, size_t bytes, classic_settings settings);
+
+/* Gives the file's descriptor. */
+classic_descriptor classic_validate(const uint8_t *file, size_t bytes);
+
+/* Gives an extension by number, 1 to nex. */
+classic_extension classic_extension_of(const uint8_t *file, size_t bytes, uint64_t number);
+
+/* Opens an entry by number, 1 to xnext - 1. */
+classic_entry classic_open(const uint8_t *file, size_t bytes, uint64_t entry);
+
+/* Gives the application's lind - 3 words of an entry's index. */
+classic_part classic_index_words(const uint8_t *file, size_t bytes, uint64_t entry);
+
+/* Gives the first section of an entry that has the identifier. */
+classic_part classic_section(const uint8_t *file, size_t bytes, uint64_t entry, int32_t identifier);
+
+/* Gives the data of an entry. */
+classic_part classic_data(const uint8_t *file, size_t bytes, uint64_t entry);
+
+/* Opens every entry in turn and checks that they stand in order. */
+classic_checked classic_check(const uint8_t *file, size_t bytes);
+
+/* Appends an entry: its version, the application's index words, and for each section an identifier, a length in words
+   and its bytes, which stand one after another in sections; then the data. All counts named bytes are in bytes. */
+classic_appended classic_append(uint8_t *file, size_t bytes, int32_t version,
+                                const uint8_t *index, size_t index_bytes,
+                                const int32_t *ids, size_t id_count,
+                                const int64_t *lengths, size_t length_count,
+                                const uint8_t *sections, size_t section_bytes,
+                                const uint8_t *data, size_t data_bytes);
+
+#ifdef __cplusplus
+}
+#endif
+
+#endif

@@ -1,0 +1,380 @@
+//! The cases: files made, damaged, cut, grown and created, and the calls asked of them. A case is made from the seed
+//! and its number alone.
+
+use crate::additions::{addition, spoil};
+use crate::damage::{edges, fields, random_damage};
+use crate::examples::examples;
+use crate::files::{self, make, make_full, together, Made, Shape};
+use crate::random::Random;
+use crate::reference::{self, Addition, Settings};
+use crate::script::{Call, Script};
+
+/// How many cases there are of each kind, one kind after another.
+const PLAN: [(usize, fn(&mut Random, &mut Script)); 10] = [
+    (1, examples),
+    (24, every_edge),
+    (4, great_lengths),
+    (20, great_numbers),
+    (120, cut_and_grown),
+    (2000, damaged),
+    (800, whole),
+    (300, creations),
+    (600, appends),
+    (SERIES, series),
+];
+
+/// The number of series; they are the last cases.
+const SERIES: usize = 500;
+
+/// The number of cases.
+pub fn count() -> usize {
+    PLAN.iter().map(|(count, _)| count).sum()
+}
+
+/// Says whether a case is a series for demand 3.
+pub fn is_series(case: usize) -> bool {
+    case >= count() - SERIES
+}
+
+/// Makes a case.
+pub fn script(seed: u64, case: usize) -> Script {
+    let mut script = Script::default();
+    fill(seed, case, &mut script);
+    script
+}
+
+/// The file of a case as it is before a call.
+pub fn file_before(seed: u64, case: usize, call: usize) -> Vec<u8> {
+    let mut script = Script { watched: Some(call), ..Script::default() };
+    fill(seed, case, &mut script);
+    script.watched_file
+}
+
+/// Writes a case into a script.
+fn fill(seed: u64, case: usize, script: &mut Script) {
+    let mut random = Random::new(seed, case as u64);
+    script.turn = case;
+    let mut first = 0;
+    for (count, kind) in PLAN {
+        if (first..first + count).contains(&case) {
+            kind(&mut random, script);
+        }
+        first += count;
+    }
+}
+
+/// A number to ask for: mostly one of 1 to last, else one past an edge.
+fn number(random: &mut Random, last: usize) -> u64 {
+    let last = last as u64;
+    if last > 0 && !random.once_in(4) {
+        return random.from(1, last as usize) as u64;
+    }
+    let any = random.next();
+    random.pick(&[0, last + 1, 1 << 31, (1 << 32) + 1, (1 << 32) + last, 1 << 63, (1 << 63) + last, u64::MAX, any])
+}
+
+/// An identifier to ask an entry for: mostly one that it has.
+fn identifier(random: &mut Random, made: &Made, entry: u64) -> i32 {
+    match made.entries.get((entry as usize).wrapping_sub(1)) {
+        Some(placed) if !placed.ids.is_empty() && !random.once_in(4) => random.pick(&placed.ids),
+        _ => random.pick(&[0, 1, -1, 7, i32::MIN, i32::MAX]),
+    }
+}
+
+/// One of the calls that read, about an entry.
+fn reading(random: &mut Random, made: &Made, entry: u64) -> Call {
+    match random.from(1, 7) {
+        1 => Call::Validate,
+        2 => Call::ExtensionOf(number(random, made.areas.len())),
+        3 => Call::Open(entry),
+        4 => Call::IndexWords(entry),
+        5 => Call::Section(entry, identifier(random, made, entry)),
+        6 => Call::Data(entry),
+        _ => Call::Check,
+    }
+}
+
+/// Every call that reads, about an entry.
+fn all_readings(random: &mut Random, script: &mut Script, made: &Made, entry: u64) {
+    script.call(Call::Validate);
+    script.call(Call::ExtensionOf(number(random, made.areas.len())));
+    script.call(Call::Open(entry));
+    script.call(Call::IndexWords(entry));
+    script.call(Call::Section(entry, identifier(random, made, entry)));
+    script.call(Call::Data(entry));
+    script.call(Call::Check);
+}
+
+/// Appends, spoiled once in so many times.
+fn append(random: &mut Random, script: &mut Script, lind: i32, spoiled: usize) -> u32 {
+    let mut a = addition(random, lind);
+    if random.once_in(spoiled) {
+        spoil(random, &mut a);
+    }
+    script.call(Call::Append(a))
+}
+
+/// Each edge value in each field of a small file, with a few calls.
+fn every_edge(random: &mut Random, script: &mut Script) {
+    let mut shape = files::shape(random);
+    shape.settings.reclen = random.pick(&[18, 20, 24, 32, 48]);
+    shape.settings.lind = shape.settings.lind.min(12);
+    shape.settings.lex1 = random.from(1, 2) as i32;
+    shape.entries = random.from(2, 3).min(together(&shape.settings, 2));
+    shape.most_sections = 3;
+    shape.spare_records = 4;
+    let made = make(random, &shape);
+    script.lend(&made.bytes, made.bytes.len());
+    for field in fields(&made) {
+        for value in edges(&made, &field) {
+            script.again();
+            script.poke(field.at, &value);
+            if field.entry == 0 {
+                script.call(Call::Validate);
+                script.call(reading(random, &made, 1));
+                append(random, script, shape.settings.lind, 12);
+            } else {
+                script.call(Call::Open(field.entry as u64));
+                script.call(reading(random, &made, field.entry as u64));
+                script.call(Call::Check);
+            }
+        }
+    }
+}
+
+/// Lent lengths around 2^30 bytes, of which only the first part may be touched.
+fn great_lengths(random: &mut Random, script: &mut Script) {
+    let mut shape = files::shape(random);
+    shape.settings.reclen = random.pick(&[16, 32, 128]);
+    shape.settings.lind = 4;
+    shape.entries = 1;
+    shape.spare_records = 256;
+    let made = make(random, &shape);
+    let record = 4 * made.reclen();
+    for total in [1 << 30, (1 << 30) - record, (1 << 30) + record, (1 << 30) + 1, (1 << 30) - 4] {
+        script.lend(&made.bytes, total);
+        all_readings(random, script, &made, 1);
+        append(random, script, 4, 8);
+        script.again();
+        script.call(Call::Create(shape.settings));
+        append(random, script, 4, 8);
+        script.call(Call::Append(Addition { index: vec![1; 4], data: random.bytes(4 * 2000), ..Addition::default() }));
+    }
+}
+
+/// Files with thousands of entries that are not there, up to the greatest capacities and the greatest count.
+fn great_numbers(random: &mut Random, script: &mut Script) {
+    let mut settings = files::settings(random);
+    settings.lind = random.from(3, 4) as i32;
+    let (reclen, lex1, gex, extensions) = random.pick(&[
+        (46, 4096, 10, 16),
+        (22, 4096, 20, 3),
+        (24, 4096, 15, 4),
+        (23, 4095, 20, 2),
+        (60, 3001, 19, 3),
+        (40, 4096, 20, 2),
+    ]);
+    (settings.reclen, settings.lex1, settings.gex) = (reclen, lex1, gex);
+    let made = make_full(&settings, extensions, random.pick(&[0, 5, 40, 3000]));
+    let entries = together(&settings, extensions);
+    script.lend(&made.bytes, made.bytes.len());
+    for k in 0..=extensions + 1 {
+        script.call(Call::ExtensionOf(k as u64));
+    }
+    for entry in [entries, entries + 1, random.from(1, entries)] {
+        all_readings(random, script, &made, entry as u64);
+    }
+    append(random, script, settings.lind, 6);
+    for xnext in
+        [entries, entries + 2, together(&settings, extensions - 1) + 2, together(&settings, extensions - 1) + 1]
+    {
+        script.again();
+        script.poke(4 * 6, &(xnext as i64).to_le_bytes());
+        script.call(Call::Validate);
+        append(random, script, settings.lind, 6);
+        script.call(Call::Open(xnext as u64 - 1));
+    }
+    for (nex, entries) in [(extensions + 1, entries + 1), (extensions - 1, entries)] {
+        script.again();
+        script.poke(4 * 12, &(nex as i32).to_le_bytes());
+        script.poke(4 * 6, &(entries as i64 + 1).to_le_bytes());
+        all_readings(random, script, &made, entries as u64);
+    }
+}
+
+/// A file lent with other lengths than its own.
+fn cut_and_grown(random: &mut Random, script: &mut Script) {
+    let shape = files::shape(random);
+    let made = make(random, &shape);
+    let (size, record) = (made.bytes.len(), 4 * made.reclen());
+    let near = [size - record, size - 4, size - 1, size, size + 1, size + 4, size + record, size + 40 * record];
+    for length in [0, 1, 3, 4, 52, 55, 56, 60, 63, 64, 65, 128].into_iter().chain(near) {
+        let mut bytes = made.bytes.clone();
+        bytes.resize(length, 0);
+        script.lend(&bytes, length);
+        let entry = number(random, made.entries.len());
+        all_readings(random, script, &made, entry);
+        append(random, script, made.settings.lind, 8);
+        script.call(Call::Create(made.settings));
+    }
+}
+
+/// Puts a shape's entries out of order, or lets them overlap, once in so many times.
+fn disorder(random: &mut Random, shape: &mut Shape, times: usize) {
+    if shape.entries > 0 && random.once_in(times) {
+        shape.shuffled = random.once_in(2);
+        shape.overlaps = !shape.shuffled;
+    }
+}
+
+/// A file with one to three damages at a time.
+fn damaged(random: &mut Random, script: &mut Script) {
+    let mut shape = files::shape(random);
+    shape.entries = shape.entries.max(1);
+    disorder(random, &mut shape, 8);
+    let made = make(random, &shape);
+    let fields = fields(&made);
+    script.lend(&made.bytes, made.bytes.len());
+    for _ in 0..10 {
+        script.again();
+        for _ in 0..random.pick(&[1, 1, 1, 2, 3]) {
+            let (at, bytes) = random_damage(random, &made, &fields);
+            script.poke(at, &bytes);
+        }
+        let entry = number(random, made.entries.len());
+        all_readings(random, script, &made, entry);
+        if random.once_in(3) {
+            append(random, script, shape.settings.lind, 8);
+            script.call(Call::Check);
+        }
+    }
+}
+
+/// A file as it was made, in order or not: everything in it is read.
+fn whole(random: &mut Random, script: &mut Script) {
+    let mut shape = files::shape(random);
+    disorder(random, &mut shape, 2);
+    let made = make(random, &shape);
+    script.lend(&made.bytes, made.bytes.len());
+    script.call(Call::Validate);
+    for k in 0..=made.areas.len() + 1 {
+        script.call(Call::ExtensionOf(k as u64));
+    }
+    read_all(script);
+    for _ in 0..20 {
+        let entry = number(random, made.entries.len());
+        script.call(reading(random, &made, entry));
+    }
+    script.call(Call::Check);
+}
+
+/// Reads each entry of the script's file with its index words, sections and data.
+fn read_all(script: &mut Script) {
+    let entries = reference::validate(&script.file).map_or(0, |d| d.entries() as u64);
+    for entry in 1..=entries {
+        script.call(Call::Open(entry));
+        script.call(Call::IndexWords(entry));
+        for id in reference::open(&script.file, entry).map_or(vec![], |e| e.ids) {
+            script.call(Call::Section(entry, id as i32));
+        }
+        script.call(Call::Data(entry));
+    }
+}
+
+/// Creations with good settings and with one or more at an edge, over bytes of any content.
+fn creations(random: &mut Random, script: &mut Script) {
+    for _ in 0..12 {
+        let mut settings = files::settings(random);
+        let record = 4 * settings.reclen as usize;
+        for _ in 0..random.pick(&[0, 0, 1, 1, 2]) {
+            spoil_setting(random, &mut settings);
+        }
+        let size = match random.from(1, 8) {
+            1 => random.pick(&[0, 1, 56, 60, 63, 64, 65]),
+            2 => random.from(0, 3 * record),
+            _ => record * random.from(1, 6),
+        };
+        script.lend(&random.bytes(size), size);
+        script.call(Call::Create(settings));
+        script.call(Call::Validate);
+        script.call(Call::Check);
+        append(random, script, settings.lind.clamp(3, 256), 6);
+    }
+}
+
+/// Puts an edge value into one of the settings.
+fn spoil_setting(random: &mut Random, s: &mut Settings) {
+    let any = random.next() as i32;
+    let mut edge = |limits: &[i32]| {
+        let limit = random.pick(limits);
+        random.pick(&[limit - 1, limit, limit + 1, 0, -1, i32::MAX, i32::MIN, any])
+    };
+    match any.rem_euclid(7) {
+        0 => s.reclen = edge(&[16, 4096]),
+        1 => s.kind = edge(&[1, 3]),
+        2 => s.vind = edge(&[2]),
+        3 => s.lind = edge(&[3, 256]),
+        4 => s.flags = edge(&[0, 1]),
+        5 => s.lex1 = edge(&[1, 4096]),
+        _ => s.gex = edge(&[10, 20]),
+    }
+}
+
+/// Appends of every kind to a made file, also one that is not in order.
+fn appends(random: &mut Random, script: &mut Script) {
+    let mut shape = files::shape(random);
+    disorder(random, &mut shape, 4);
+    shape.spare_records = random.pick(&[0, 400, 1500]) / shape.settings.reclen as usize;
+    let made = make(random, &shape);
+    script.lend(&made.bytes, made.bytes.len());
+    for _ in 0..24 {
+        if random.once_in(10) {
+            script.again();
+        }
+        let refusal = append(random, script, shape.settings.lind, 2);
+        if refusal == 0 && random.once_in(4) {
+            script.call(Call::Check);
+        }
+    }
+    script.again();
+    fit_exactly(random, script, shape.settings.lind);
+}
+
+/// Appends that end within one word of the buffer's end.
+fn fit_exactly(random: &mut Random, script: &mut Script, lind: i32) {
+    let index = random.bytes(4 * (lind as usize - 3));
+    let bare = Addition { index, ..Addition::default() };
+    let mut file = script.file.clone();
+    let free = match reference::append(&mut file, &bare).and_then(|_| reference::validate(&file)) {
+        Ok(d) => d.free() as usize,
+        Err(_) => return,
+    };
+    let left = file.len() / 4 - free;
+    for words in [left.saturating_sub(1), left, left + 1] {
+        script.again();
+        script.call(Call::Append(Addition { data: random.bytes(4 * words), ..bare.clone() }));
+        script.call(Call::Validate);
+        script.call(Call::Check);
+    }
+}
+
+/// A series of appends good and bad to a created file or to one in order: all entries are read before and after, and
+/// the order is checked.
+fn series(random: &mut Random, script: &mut Script) {
+    let mut shape = files::shape(random);
+    shape.spare_records = 1 + random.from(20, 3000) / shape.settings.reclen as usize;
+    if random.once_in(2) {
+        let made = make(random, &shape);
+        script.lend(&made.bytes, made.bytes.len());
+    } else {
+        let bytes = random.bytes(4 * (1 + shape.spare_records) * shape.settings.reclen as usize);
+        script.lend(&bytes, bytes.len());
+        script.call(Call::Create(shape.settings));
+    }
+    read_all(script);
+    for _ in 0..random.from(4, 40) {
+        append(random, script, shape.settings.lind, 4);
+    }
+    read_all(script);
+    script.call(Call::Check);
+}

@@ -1,0 +1,89 @@
+//! The examples that document 01 works by hand, as the first case: the reference must give the numbers written here,
+//! and the library is compared with the reference.
+
+use crate::files::make_full;
+use crate::random::Random;
+use crate::reference::{Addition, Settings};
+use crate::script::{Call, Script};
+
+/// The settings of file A, with another reclen, lind, lex1 and gex.
+fn settings(reclen: i32, lind: i32, lex1: i32, gex: i32) -> Settings {
+    Settings { reclen, kind: 1, vind: 2, lind, flags: 0, lex1, gex }
+}
+
+/// Asks a call, and demands the first fields of its answer.
+fn expect(script: &mut Script, example: &str, call: Call, fields: &[u64]) {
+    script.call(call);
+    let given = script.asked.last().map_or(&[][..], |asked| &asked.answer.fields);
+    assert_eq!(&given[..fields.len()], fields, "the reference fails {example}");
+}
+
+/// What appends (1), (2) and (3) of file A take.
+fn additions() -> [Addition; 3] {
+    let bare = Addition { version: 1, index: vec![9; 4], ..Addition::default() };
+    let full = Addition { ids: vec![7], lengths: vec![3], sections: vec![8; 12], data: vec![6; 20], ..bare.clone() };
+    [full, bare.clone(), bare]
+}
+
+/// The examples.
+pub fn examples(_: &mut Random, script: &mut Script) {
+    let [first, second, third] = additions();
+    for (records, refusal) in [(6, 0), (5, 24)] {
+        script.lend(&vec![0xff; 80 * records], 80 * records);
+        expect(script, "creating A", Call::Create(settings(20, 4, 2, 20)), &[0]);
+        expect(script, "append (1)", Call::Append(first.clone()), &[0, 1]);
+        expect(script, "append (2)", Call::Append(second.clone()), &[0, 2]);
+        expect(script, "P3", Call::Validate, &[0, 20, 1, 2, 4, 0, 3, 4, 16, 2, 1, 20, 2, 0]);
+        expect(script, "P5", Call::Append(third.clone()), &[refusal, if refusal == 0 { 3 } else { 0 }]);
+        expect(script, "the order of A", Call::Check, &[0, 0]);
+        if refusal == 0 {
+            expect(script, "P4", Call::Validate, &[0, 20, 1, 2, 4, 0, 4, 6, 12, 2, 2, 20, 2, 5, 0]);
+        }
+        expect(script, "line 1 and P1", Call::Open(1), &[0, 3, 1, 1, 1, 24, 20, 5, 7]);
+        expect(script, "P1, the section", Call::Section(1, 7), &[0, 4 * (40 + 17 - 1), 12]);
+        expect(script, "P1, the data", Call::Data(1), &[0, 4 * (40 + 20 - 1), 20]);
+        expect(script, "line 2", Call::Open(2), &[0, 4, 5, 1, 0, 11, 0, 0]);
+        expect(script, "P2", Call::IndexWords(2), &[0, 4 * (20 + 4 + 3), 4]);
+    }
+    crossing(script);
+    growth(script);
+    limits(script);
+}
+
+/// P6: the fourth index of reclen 16 and lind 5 stands at offset 15.
+fn crossing(script: &mut Script) {
+    script.lend(&[0; 64 * 16], 64 * 16);
+    expect(script, "creating P6", Call::Create(settings(16, 5, 4, 10)), &[0]);
+    for number in 1..=4 {
+        expect(script, "P6", Call::Append(Addition { index: vec![5; 8], ..Addition::default() }), &[0, number]);
+    }
+    expect(script, "P6", Call::IndexWords(4), &[0, 4 * (16 + 15 + 3), 8]);
+}
+
+/// P7 to P9: capacities.
+fn growth(script: &mut Script) {
+    let made = make_full(&settings(22, 3, 5, 15), 4, 0);
+    script.lend(&made.bytes, made.bytes.len());
+    for (k, capacity) in (1..).zip([5, 7, 10, 15]) {
+        expect(script, "P7", Call::ExtensionOf(k), &[0, capacity]);
+    }
+    let made = make_full(&settings(22, 3, 4096, 20), 3, 0);
+    script.lend(&made.bytes, made.bytes.len());
+    expect(script, "P8, nex 3", Call::Validate, &[0, 22]);
+    script.poke(4 * 12, &[4, 0, 0, 0]);
+    expect(script, "P8, nex 4", Call::Validate, &[8, 0]);
+    let made = make_full(&settings(46, 3, 4096, 10), 16, 0);
+    script.lend(&made.bytes, made.bytes.len());
+    expect(script, "P9", Call::Validate, &[0, 46, 1, 2, 3, 0, 65537]);
+}
+
+/// P10 to P12: reclen 15 and 16, lind 2 and 3, eight bytes FF.
+fn limits(script: &mut Script) {
+    script.lend(&[0; 960], 960);
+    for (reclen, lind, refusal) in [(15, 3, 3), (16, 3, 0), (16, 2, 6), (16, 3, 0)] {
+        expect(script, "P10 and P11", Call::Create(settings(reclen, lind, 1, 10)), &[refusal]);
+    }
+    expect(script, "P12", Call::Append(Addition::default()), &[0, 1]);
+    script.poke(4 * (16 + 16 + 5), &[0xff; 8]);
+    expect(script, "P12", Call::Open(1), &[0, 3, 1, 0, 0, 11, u64::MAX, 0]);
+}

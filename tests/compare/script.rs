@@ -1,0 +1,250 @@
+//! A script is one case: a file, changes to it and calls, as the driver reads them, and for each call the answer
+//! that the reference gives at that place.
+
+use crate::reference::{self, Addition, Refusal, Settings};
+
+/// The calls of the interface, in the order of their numbers in the driver's protocol.
+pub const CALLS: [&str; 9] =
+    ["create", "validate", "extension_of", "open", "index_words", "section", "data", "check", "append"];
+
+/// One call with its arguments, the file aside.
+#[derive(Clone, Debug)]
+pub enum Call {
+    Create(Settings),
+    Validate,
+    ExtensionOf(u64),
+    Open(u64),
+    IndexWords(u64),
+    Section(u64, i32),
+    Data(u64),
+    Check,
+    Append(Addition),
+}
+
+/// An answer: every field in the header's order, and for the table the refusal with the way it came about.
+pub struct Answer {
+    pub refusal: u32,
+    pub way: &'static str,
+    pub fields: Vec<u64>,
+}
+
+/// A call of a script, the reference's answer, and after a creation or append the file's bytes.
+pub struct Asked {
+    pub call: Call,
+    pub answer: Answer,
+    pub after: Option<Vec<u8>>,
+}
+
+/// A case as it grows: the driver's message, the calls asked so far, the file as lent and as it is now; whose turn it is to
+/// lend empty slices as (NULL, 0); and, where a call is watched, the file before it.
+#[derive(Default)]
+pub struct Script {
+    pub message: Vec<u8>,
+    pub asked: Vec<Asked>,
+    pub lent: Vec<u8>,
+    pub file: Vec<u8>,
+    pub turn: usize,
+    pub watched: Option<usize>,
+    pub watched_file: Vec<u8>,
+}
+
+impl Answer {
+    /// Why the reference answers so.
+    pub fn reason(&self) -> String {
+        match self.refusal {
+            0 => "accepted".to_string(),
+            refusal => format!("refusal {refusal}: {}", self.way),
+        }
+    }
+}
+
+impl Call {
+    /// The call's place in CALLS.
+    pub fn number(&self) -> usize {
+        match self {
+            Call::Create(_) => 0,
+            Call::Validate => 1,
+            Call::ExtensionOf(_) => 2,
+            Call::Open(_) => 3,
+            Call::IndexWords(_) => 4,
+            Call::Section(..) => 5,
+            Call::Data(_) => 6,
+            Call::Check => 7,
+            Call::Append(_) => 8,
+        }
+    }
+
+    /// The name of a field of the answer.
+    pub fn field(&self, i: usize) -> String {
+        let names: &[&str] = match self {
+            Call::Create(_) => &["refusal"],
+            Call::Validate => &[
+                "refusal", "reclen", "kind", "vind", "lind", "flags", "xnext", "nextrec", "nextword", "lex1", "nex",
+                "gex",
+            ],
+            Call::ExtensionOf(_) => &["refusal", "capacity", "first", "records"],
+            Call::Open(_) => &["refusal", "record", "word", "version", "nsec", "nword", "adata", "ldata"],
+            Call::IndexWords(_) | Call::Section(..) | Call::Data(_) => &["refusal", "start", "length"],
+            Call::Check => &["entry", "refusal"],
+            Call::Append(_) => &["refusal", "number"],
+        };
+        let past = i.wrapping_sub(names.len());
+        match self {
+            _ if i < names.len() => names[i].to_string(),
+            Call::Validate => format!("aex[{past}]"),
+            _ => format!("{}[{}]", ["ids", "lengths", "addresses"][past / 64], past % 64),
+        }
+    }
+
+    /// Says what the call is, shortened.
+    pub fn described(&self) -> String {
+        match self {
+            Call::Append(a) => format!(
+                "append (version {}, {} index bytes, ids {:?}, lengths {:?}, {} section bytes, {} data bytes)",
+                a.version,
+                a.index.len(),
+                a.ids,
+                a.lengths,
+                a.sections.len(),
+                a.data.len()
+            ),
+            _ => format!("{self:?}"),
+        }
+    }
+
+    /// The reference's answer; create and append change the file.
+    fn answer(&self, file: &mut [u8]) -> Answer {
+        match self {
+            Call::Create(settings) => refusal_first(reference::create(file, settings).map(|()| vec![]), 0),
+            Call::Validate => refusal_first(reference::validate(file).map(|d| descriptor_fields(&d)), 27),
+            Call::ExtensionOf(k) => {
+                refusal_first(reference::extension_of(file, *k).map(|e| vec![e.capacity, e.first, e.records]), 3)
+            }
+            Call::Open(k) => refusal_first(reference::open(file, *k).map(|e| entry_fields(&e)), 7 + 3 * 64),
+            Call::IndexWords(k) => part(reference::index_words(file, *k)),
+            Call::Section(k, id) => part(reference::section(file, *k, *id)),
+            Call::Data(k) => part(reference::data(file, *k)),
+            Call::Check => check(reference::check(file)),
+            Call::Append(a) => refusal_first(reference::append(file, a).map(|number| vec![number as i128]), 1),
+        }
+    }
+
+    /// Writes the call as the driver reads it; null says that empty slices are lent as (NULL, 0).
+    fn encode(&self, out: &mut Vec<u8>, null: bool) {
+        out.push(b'0' + self.number() as u8);
+        out.push(null as u8);
+        match self {
+            Call::Create(s) => {
+                for value in [s.reclen, s.kind, s.vind, s.lind, s.flags, s.lex1, s.gex] {
+                    out.extend(value.to_le_bytes());
+                }
+            }
+            Call::ExtensionOf(k) | Call::Open(k) | Call::IndexWords(k) | Call::Data(k) => out.extend(k.to_le_bytes()),
+            Call::Section(k, id) => {
+                out.extend(k.to_le_bytes());
+                out.extend(id.to_le_bytes());
+            }
+            Call::Validate | Call::Check => {}
+            Call::Append(a) => {
+                out.extend(a.version.to_le_bytes());
+                let ids: Vec<u8> = a.ids.iter().flat_map(|id| id.to_le_bytes()).collect();
+                let lengths: Vec<u8> = a.lengths.iter().flat_map(|length| length.to_le_bytes()).collect();
+                for part in [&a.index, &ids, &lengths, &a.sections, &a.data] {
+                    encode_bytes(out, part);
+                }
+            }
+        }
+    }
+}
+
+/// Writes a count of bytes and the bytes.
+fn encode_bytes(out: &mut Vec<u8>, bytes: &[u8]) {
+    out.extend((bytes.len() as u64).to_le_bytes());
+    out.extend(bytes);
+}
+
+/// An answer whose first field is the refusal; a refused one has so many zeros after it.
+fn refusal_first(result: Result<Vec<i128>, Refusal>, zeros: usize) -> Answer {
+    let (number, way, rest) = match result {
+        Ok(values) => (0, "", values),
+        Err(refusal) => (refusal.number, refusal.way, vec![0; zeros]),
+    };
+    let mut fields = vec![number as u64];
+    fields.extend(rest.iter().map(|&value| value as u64));
+    Answer { refusal: number, way, fields }
+}
+
+/// The answer of a call that hands out a part.
+fn part(result: Result<reference::Part, Refusal>) -> Answer {
+    refusal_first(result.map(|p| vec![p.start, p.length]), 2)
+}
+
+/// The answer of an order check.
+fn check(result: Result<(), (u64, Refusal)>) -> Answer {
+    match result {
+        Ok(()) => Answer { refusal: 0, way: "", fields: vec![0, 0] },
+        Err((entry, refusal)) => {
+            Answer { refusal: refusal.number, way: refusal.way, fields: vec![entry, refusal.number as u64] }
+        }
+    }
+}
+
+/// The fields of a descriptor, with 16 places of addresses.
+fn descriptor_fields(d: &reference::Descriptor) -> Vec<i128> {
+    let mut fields =
+        vec![d.reclen, d.kind, d.vind, d.lind, d.flags, d.xnext, d.nextrec, d.nextword, d.lex1, d.nex, d.gex];
+    fields.extend(&d.aex);
+    fields.resize(11 + 16, 0);
+    fields
+}
+
+/// The fields of an entry, with three tables of 64 places.
+fn entry_fields(e: &reference::Entry) -> Vec<i128> {
+    let mut fields = vec![e.record, e.word, e.version, e.nsec, e.nword, e.adata, e.ldata];
+    for table in [&e.ids, &e.lengths, &e.addresses] {
+        let end = fields.len() + 64;
+        fields.extend(table);
+        fields.resize(end, 0);
+    }
+    fields
+}
+
+impl Script {
+    /// Lends a file that begins with these bytes; a longer one goes on with bytes that no call may touch.
+    pub fn lend(&mut self, bytes: &[u8], total: usize) {
+        self.message.push(b'F');
+        self.message.extend((total as u64).to_le_bytes());
+        encode_bytes(&mut self.message, bytes);
+        self.lent = bytes.to_vec();
+        self.file = vec![0; total];
+        self.file[..bytes.len()].copy_from_slice(bytes);
+    }
+
+    /// Makes the file what it was when it was lent.
+    pub fn again(&mut self) {
+        self.message.push(b'A');
+        self.file[..self.lent.len()].copy_from_slice(&self.lent);
+    }
+
+    /// Changes bytes of the file from outside.
+    pub fn poke(&mut self, at: usize, bytes: &[u8]) {
+        self.message.push(b'P');
+        self.message.extend((at as u64).to_le_bytes());
+        encode_bytes(&mut self.message, bytes);
+        self.file[at..at + bytes.len()].copy_from_slice(bytes);
+    }
+
+    /// Asks a call, and gives its refusal; every second call of a case lends its empty slices as (NULL, 0).
+    pub fn call(&mut self, call: Call) -> u32 {
+        if self.watched == Some(self.asked.len()) {
+            self.watched_file = self.file[..self.lent.len()].to_vec();
+        }
+        call.encode(&mut self.message, (self.turn + self.asked.len()) % 2 == 0);
+        let answer = call.answer(&mut self.file);
+        let refusal = answer.refusal;
+        let changes = matches!(call, Call::Create(_) | Call::Append(_));
+        let after = if changes { Some(self.file[..self.lent.len()].to_vec()) } else { None };
+        self.asked.push(Asked { call, answer, after });
+        refusal
+    }
+}
