@@ -1,14 +1,12 @@
 -- What holds of an accepted append: its words are within the bytes lent, and its numbers are admitted again. Assumes nothing.
-use Prim.Native.Nat.{ℕ, _+_, _*_, _-_, _/_, _%_, _^_, _≤_, _<_}
-use mathlib.Core.Path.{_≡_, refl, sym, ap, _∙_}
+use Prim.Native.Nat.{ℕ, _+_, _*_, _/_, _^_, _≤_, _<_}
+use mathlib.Core.Path.{_≡_, refl, ap}
 use mathlib.Core.List.{List}
 use native.Mathlib.Omega.{arith}
-use lib.IntN.{ℤ}
 use lib.ListN.{length}
 use Rattle.geometry.specs.declared.units.RecordNumber.{RecordNumber}
 use Rattle.geometry.specs.declared.units.EntryNumber.{EntryNumber}
 use Rattle.geometry.specs.Units.{entriesBefore}
-use Rattle.geometry.specs.Growth.{totalOf}
 use Rattle.geometry.proofs.Capacities.{total-limit}
 use Rattle.descriptor.specs.declared.numbers.DescriptorNumbers.{DescriptorNumbers}
 use Rattle.descriptor.specs.FirstRecord.{growthIn, freeOf}
@@ -18,12 +16,11 @@ use Rattle.entry.specs.EntryDescriptor.{wordOffset}
 use Rattle.entry.specs.Contents.{firstContent}
 use Rattle.entry.specs.Opening.{slotPositionOf}
 use Rattle.entry.proofs.Entering.{slot-inside}
-use Rattle.writer.specs.declared.storing.Head.{Head}
 use Rattle.writer.specs.Handed.{Handed, sumOf, nsecIn, ldataIn, nwordIn}
 use Rattle.writer.specs.Placing.{entryStart, numbersAfter, addressesAfter}
 use Rattle.writer.specs.Writing.{headFrom, headOf}
 use Rattle.writer.specs.Bounds.{Fitting, Accepted}
-use Rattle.writer.proofs.Kept.{kept, free-after}
+use Rattle.writer.proofs.Kept.{kept}
 
 -- ---- the numbers of what is handed in
 

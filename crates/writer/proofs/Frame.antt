@@ -6,10 +6,9 @@ use mathlib.Core.Logic.{_⊎_, inl, inr}
 use mathlib.Core.List.{List}
 use native.Mathlib.Omega.{arith}
 use lib.ListN.{length}
-use Rattle.image.specs.Image.{part, zeros}
+use Rattle.image.specs.Image.{part}
 use Rattle.image.specs.Writes.{writes}
-use Rattle.image.proofs.Splice.{length-zeros}
-use Rattle.image.proofs.Writes.{writes-keep, length-writes}
+use Rattle.image.proofs.Writes.{writes-keep}
 use Rattle.words.specs.Word.{numeral}
 use Rattle.words.proofs.Number.{length-numeral}
 use Rattle.geometry.specs.declared.units.RecordNumber.{RecordNumber}
@@ -18,7 +17,7 @@ use Rattle.geometry.specs.Units.{placeOf}
 use Rattle.descriptor.specs.declared.numbers.DescriptorNumbers.{DescriptorNumbers}
 use Rattle.descriptor.specs.FirstRecord.{freeOf}
 use Rattle.writer.specs.Handed.{Handed}
-use Rattle.writer.specs.Placing.{full, newArea, entryStart, numbersAfter, addressesAfter}
+use Rattle.writer.specs.Placing.{full, newArea, entryStart}
 use Rattle.writer.specs.Creation.{countWrites}
 use Rattle.writer.specs.Writing.{areaWrites, headOf, headWrites, tableWrites, contentWrites, slotWrites, areaWritten, entryWritten, indexWritten, appended}
 use Rattle.writer.specs.Bounds.{Accepted}

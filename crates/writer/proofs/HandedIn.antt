@@ -128,3 +128,9 @@ module _ (d : DescriptorNumbers) where
             extensible = extensible (refusal-none (extensionRules d) (b .0));
             inside = space-inside bytes (nwordIn h) (refusal-none spaces (b .1));
           }
+
+      -- and what is handed in passed its own rules
+      pub handed-passed : appendRefusal bytes d h ≡ 0 → refusalOf ≡ 0
+      unfolding appendRefusal handedRefusal
+      handed-passed e =
+          refusal-none rulesOf (hold-split rulesOf (extensionRules d ++ spaces) (all-hold (appendRules bytes d h) (omega arith) e) .0)

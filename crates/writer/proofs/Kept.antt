@@ -1,20 +1,18 @@
 -- The numbers and addresses after an accepted append are admitted again. Assumes nothing.
-use Prim.Native.Nat.{ℕ, zero, suc, _+_, _*_, _-_, _/_, _%_, _^_, _≤_, _<_}
-use mathlib.Core.Path.{_≡_, refl, sym, ap, ap₂, _∙_}
-use mathlib.Core.Bool.{Bool, true, false, cond, _&&_}
+use Prim.Native.Nat.{ℕ, zero, suc, _+_, _*_, _-_, _/_, _^_, _≤_}
+use mathlib.Core.Path.{_≡_, refl, ap, ap₂, _∙_}
+use mathlib.Core.Bool.{Bool, true, false, _&&_}
 use mathlib.Core.List.{List}
 use native.Mathlib.Omega.{arith}
-use native.Mathlib.Nat.{le-div-iff-mul-le, div-le-self, mul-le-mul-left, mul-le-mul-right, le-of-mul-le-mul-right}
-use native.Mathlib.Numerals.{add-one}
-use borrow.Author.Tests.{leb-true, le-leb, lt-ltb, le-ltb, eqb-true, eqb-false, eq-eqb}
-use lib.Dec.{leb, ltb, eqb}
-use lib.ListN.{length, getD, set, length-set}
+use native.Mathlib.Nat.{le-div-iff-mul-le, div-le-self, mul-le-mul-right, le-of-mul-le-mul-right}
+use borrow.Author.Tests.{le-leb, lt-ltb, le-ltb, eqb-true, eqb-false}
+use lib.ListN.{length, length-set}
 use lib.Seq.{getD-set-same, getD-set-other}
 use mir.Syntax.{w64}
 use Rattle.words.specs.Word.{signedOf}
 use Rattle.words.specs.Range.{atLeast}
 use Rattle.words.proofs.Ranges.{atLeast-bits}
-use Rattle.words.proofs.Runs.{run-next, run-fewer}
+use Rattle.words.proofs.Runs.{run-next}
 use Rattle.geometry.specs.declared.units.RecordNumber.{RecordNumber}
 use Rattle.geometry.specs.declared.growth.Growth.{Growth}
 use Rattle.geometry.specs.Units.{positionOf, placeOf, entriesBefore}
@@ -22,14 +20,14 @@ use Rattle.geometry.specs.Growth.{capacityOf, totalOf, overOf}
 use Rattle.geometry.specs.Area.{recordsFor, areaRecords}
 use Rattle.geometry.proofs.Positions.{position-place, place-word}
 use Rattle.geometry.proofs.Capacities.{over-next, total-none, total-next, capacity-some}
-use Rattle.geometry.proofs.Slots.{records-hold, records-least}
+use Rattle.geometry.proofs.Slots.{records-hold}
 use Rattle.descriptor.specs.declared.numbers.DescriptorNumbers.{DescriptorNumbers}
 use Rattle.descriptor.specs.FirstRecord.{aexOf, mexOf, growthIn, freeOf}
 use Rattle.descriptor.specs.Rules.{entriesFit, areaAfter, areasStart, areasEnd}
 use Rattle.descriptor.specs.Bounds.{Settled, Lent, Free, Admitted}
 use Rattle.descriptor.proofs.Passed.{mex-high}
 use Rattle.descriptor.proofs.Fitting.{fit-none, fit-some, fit-reach, fit-full}
-use Rattle.descriptor.proofs.AreaOrder.{after-none, after-next, starts-run, area-ends, after-low}
+use Rattle.descriptor.proofs.AreaOrder.{after-next, starts-run, area-ends}
 use Rattle.writer.specs.Placing.{full, newArea, afterNewArea, entryStart, nexAfter, numbersAfter, addressesAfter}
 use Rattle.writer.specs.Bounds.{Extensible}
 use Rattle.writer.proofs.Places.{new-small, start-low}

@@ -7,3 +7,6 @@ pub mod Accepting
 pub mod Answering
 pub mod Frame
 pub mod ReadBack
+pub mod Stored
+pub mod Reopened
+pub mod Returned

@@ -46,10 +46,10 @@ use Rattle.writer.proofs.Accepting.{free-small, xnext-small, after, adm
 
 -- ---- the rules hold of numbers that are admitted
 
-within-row : (low high u : ℕ) → high < 2 ^ 31 → low ≤ u → u ≤ high → within low high (signedOf w32 u) ≡ true
+pub within-row : (low high u : ℕ) → high < 2 ^ 31 → low ≤ u → u ≤ high → within low high (signedOf w32 u) ≡ true
 within-row low high u k l h = rw (within-bits w32 low high u k, le-leb low u l, le-leb u high h)
 
-atLeast-row : (low u : ℕ) → low ≤ u → u < 2 ^ 63 → atLeast low (signedOf w64 u) ≡ true
+pub atLeast-row : (low u : ℕ) → low ≤ u → u < 2 ^ 63 → atLeast low (signedOf w64 u) ≡ true
 atLeast-row low u l h = rw (atLeast-bits w64 low u, le-leb low u l, lt-ltb u (2 ^ 63) h)
 
 mex-reach : (reclen nex : ℕ) → nex ≤ 16 → 14 + 2 * nex ≤ reclen → (nex ≤ mexOf reclen) × (mexOf reclen < 2 ^ 31)
@@ -106,7 +106,7 @@ module _ (bytes : ℕ) (d : DescriptorNumbers) (addresses : List RecordNumber) (
       omega (arith, mul-le-mul-right (d .reclen) some)
 
   -- and so does the next free position
-  first-free : d .reclen ≤ freeOf d
+  pub first-free : d .reclen ≤ freeOf d
   unfolding positionOf
   first-free =
       let some : 1 ≤ d .nextrec .0 - 1 = omega (arith, a .free .record-low) in
@@ -121,11 +121,11 @@ apt bytes d e =
 -- ---- what an append leaves of the first record
 
 module _ (file : List ℕ) (d : DescriptorNumbers) where
-  length-area : length (areaWritten file d) ≡ length file
+  pub length-area : length (areaWritten file d) ≡ length file
   unfolding areaWritten
   length-area = either (full d) (λ q. rw q (length-writes file (areaWrites d))) (λ q. rw q)
 
-  length-entry : (h : Handed) → length (entryWritten file d h) ≡ length file
+  pub length-entry : (h : Handed) → length (entryWritten file d h) ≡ length file
   unfolding entryWritten
   length-entry h =
       let start = entryStart d in
@@ -165,7 +165,7 @@ module _ (file : List ℕ) (d : DescriptorNumbers) (addresses : List RecordNumbe
   unfolding numbersAfter
   reclen-same = refl
 
-  slot-behind : d .reclen ≤ slot
+  pub slot-behind : d .reclen ≤ slot
   slot-behind =
       omega (
         arith,

@@ -31,7 +31,7 @@ sum-next xs k h = rw (add-one, take-suc xs k (pos 0), sum-append) (omega arith)
 pub sum-fewer : (xs : List ℤ) (k : ℕ) → sumOf (take k xs) ≤ sumOf xs
 sum-fewer xs k = omega (arith, sum-append (take k xs) (drop k xs), ap sumOf (take-append-drop k xs))
 
-counted : (z : ℤ) → atLeast 1 z ≡ true → bitsOf integer8 z ≡ wordsOf z
+pub counted : (z : ℤ) → atLeast 1 z ≡ true → bitsOf integer8 z ≡ wordsOf z
 unfolding atLeast
 counted (pos n) e = refl
 counted (negsuc n) e = cc

@@ -1,7 +1,5 @@
 -- `writer::inner::append_from` meets its contract: it refuses by the table, or stores. Assumes nothing.
-use mathlib.Core.Path.{_≡_, sym, ap, _∙_}
-use Prim.Native.Nat.{ℕ}
-use native.Mathlib.Omega.{arith}
+use mathlib.Core.Path.{_≡_, sym, _∙_}
 use borrow.Author.Tests.{eq-eqb, ne-eqb}
 use lib.ListN.{length}
 use Rattle.writer.specs.Handed.{Handed, handedIn}

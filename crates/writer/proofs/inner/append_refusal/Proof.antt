@@ -1,13 +1,10 @@
 -- `writer::inner::append_refusal` meets its contract: the table by its parts. Assumes nothing.
 use mathlib.Core.Path.{_≡_, sym, ap, _∙_}
-use Prim.Native.Nat.{ℕ, _/_}
 use native.Mathlib.Omega.{arith}
 use borrow.Author.Tests.{eq-eqb, ne-eqb}
-use lib.ListN.{length}
 use Rattle.writer.specs.declared.storing.Head.{Head}
 use Rattle.writer.specs.Handed.{Handed, handedIn, nwordIn}
-use Rattle.writer.specs.Rules.{handedRefusal, extensionRefusal, spaceRefusal}
-use Rattle.writer.specs.Writing.{headFrom}
+use Rattle.writer.specs.Rules.{extensionRefusal}
 use Rattle.writer.proofs.HandedIn.{refusalOf, fitting, extensible, append-parts}
 use Rattle.writer.proofs.Accepting.{section-words, head-nword, head-counted}
 use borrow.Author.Needs.{needs}

@@ -1,6 +1,6 @@
 -- `writer::inner::store` meets its contract: the pieces of an accepted append are written one after the other. Assumes nothing.
 use mathlib.Core.Path.{_≡_, sym, ap, _∙_}
-use Prim.Native.Nat.{ℕ, _+_, _*_, _/_, _<_, _≤_, _^_}
+use Prim.Native.Nat.{ℕ, _+_}
 use native.Mathlib.Omega.{arith}
 use lib.ListN.{length}
 use mir.Facts.{toZ-ofZ}
@@ -8,12 +8,12 @@ use Rattle.geometry.specs.Units.{placeOf}
 use Rattle.geometry.proofs.Positions.{place-word}
 use Rattle.entry.specs.Opening.{slotPositionOf}
 use Rattle.writer.specs.declared.storing.Head.{Head}
-use Rattle.writer.specs.Handed.{Handed, handedIn, nwordIn, nsecIn}
+use Rattle.writer.specs.Handed.{Handed, handedIn, nwordIn}
 use Rattle.writer.specs.Placing.{entryStart, numbersAfter, addressesAfter}
 use Rattle.image.specs.Writes.{writes}
 use Rattle.writer.specs.Writing.{headFrom, headOf, headWrites, tableWrites, slotWrites, areaWritten, entryWritten, indexWritten, appended}
 use Rattle.writer.specs.Bounds.{Accepted}
-use Rattle.writer.proofs.Accepting.{head-nword, head-nsec, head-counted, section-words, value-bytes, data-next, free-small, xnext-small, entry-within, entry-small, admitted-after, number-last, slot-within}
+use Rattle.writer.proofs.Accepting.{head-nword, head-nsec, head-counted, value-bytes, data-next, free-small, xnext-small, entry-within, entry-small, admitted-after, number-last, slot-within}
 use borrow.Author.Needs.{needs}
 use Rattle.writer.proofs.inner.store.Statement.{statement}
 use Rattle.writer.proofs.inner.store.Tie as tie
