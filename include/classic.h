@@ -40,14 +40,14 @@ enum classic_refusal {
     CLASSIC_KIND = 5,            /* kind is not 1, 2 or 3 */
     CLASSIC_INDEX_FORM = 6,      /* vind is below 2, or lind is not 3 to 256 */
     CLASSIC_FLAGS = 7,           /* flags is not 0 or 1 */
-    CLASSIC_GROWTH = 8,          /* lex1 is not 1 to 4,096, gex not 10 to 20, nex not 0 to mex, or a capacity over 16,384 */
+    CLASSIC_GROWTH = 8,          /* lex1 not 1 to 4,096, gex not 10 to 20, nex not 0 to mex, or a capacity over 16,384 */
     CLASSIC_ENTRY_COUNT = 9,     /* xnext is below 1, or the number of entries does not fit nex */
-    CLASSIC_NEXT_FREE = 10,      /* nextrec is below 2, nextword not 1 to reclen, or the next free word past the file's end */
+    CLASSIC_NEXT_FREE = 10,      /* nextrec below 2, nextword not 1 to reclen, or the next free word past the file */
     CLASSIC_INDEX_AREA = 11,     /* an index area starts too early, or the last one ends past the next free word */
     CLASSIC_NUMBER = 12,         /* the entry or extension number is 0 or above the last */
-    CLASSIC_ENTRY_PLACE = 13,    /* the entry's record is below 2, its word not 1 to reclen, or its first 11 words not in use */
+    CLASSIC_ENTRY_PLACE = 13,    /* the entry's record below 2, word not 1 to reclen, or start + 11 past the free word */
     CLASSIC_ENTRY_CODE = 14,     /* the entry code is not "2   " */
-    CLASSIC_ENTRY_LENGTH = 15,   /* nsec is not 0 to 64, nword too small for it, or the entry ends past the next free word */
+    CLASSIC_ENTRY_LENGTH = 15,   /* nsec not 0 to 64, nword too small for it, or the end past the next free word */
     CLASSIC_ENTRY_XNUM = 16,     /* the entry's own number is not the number asked */
     CLASSIC_DATA_PLACE = 17,     /* ldata is below 0, or the data does not stand within the entry's content */
     CLASSIC_SECTION_PLACE = 18,  /* a section has no word, or does not stand within the entry's content */
@@ -56,8 +56,8 @@ enum classic_refusal {
     CLASSIC_APPEND_INDEX = 21,   /* append: the index words are not 4 x (lind - 3) bytes */
     CLASSIC_APPEND_PARTS = 22,   /* append: over 64 identifiers, lengths not as many, a repeated identifier, a length
                                     below 1, section bytes not 4 x the sum of the lengths, or data not whole words */
-    CLASSIC_APPEND_EXTENSION = 23, /* append: a new extension is needed, and nex is mex or its capacity over 16,384 */
-    CLASSIC_APPEND_ROOM = 24,    /* append: the entry, with a new index area if it needs one, would end past the file's end */
+    CLASSIC_APPEND_GROWTH = 23,  /* append: a new extension is needed, and nex is mex or its capacity over 16,384 */
+    CLASSIC_APPEND_ROOM = 24,    /* append: the entry, behind a new index area if it needs one, would end past the file */
     CLASSIC_ORDER = 25           /* check: an entry starts before the end of what comes before it, or ends past the
                                     start of the index area that comes after it */
 };

@@ -2,7 +2,7 @@
 //! and its number alone.
 
 use crate::additions::{addition, spoil};
-use crate::damage::{edges, fields, random_damage};
+use crate::damage::{edges, fields, random_damage, Field};
 use crate::examples::examples;
 use crate::files::{self, make, make_full, together, Made, Shape};
 use crate::random::Random;
@@ -10,9 +10,10 @@ use crate::reference::{self, Addition, Settings};
 use crate::script::{Call, Script};
 
 /// How many cases there are of each kind, one kind after another.
-const PLAN: [(usize, fn(&mut Random, &mut Script)); 10] = [
+const PLAN: [(usize, fn(&mut Random, &mut Script)); 11] = [
     (1, examples),
     (24, every_edge),
+    (6, last_of_64),
     (4, great_lengths),
     (20, great_numbers),
     (120, cut_and_grown),
@@ -109,12 +110,14 @@ fn all_readings(random: &mut Random, script: &mut Script, made: &Made, entry: u6
 fn append(random: &mut Random, script: &mut Script, lind: i32, spoiled: usize) -> u32 {
     let mut a = addition(random, lind);
     if random.once_in(spoiled) {
-        spoil(random, &mut a);
+        for _ in 0..random.pick(&[1, 1, 1, 2]) {
+            spoil(random, &mut a);
+        }
     }
     script.call(Call::Append(a))
 }
 
-/// Each edge value in each field of a small file, with a few calls.
+/// Each edge value in each field of a small file.
 fn every_edge(random: &mut Random, script: &mut Script) {
     let mut shape = files::shape(random);
     shape.settings.reclen = random.pick(&[18, 20, 24, 32, 48]);
@@ -125,17 +128,32 @@ fn every_edge(random: &mut Random, script: &mut Script) {
     shape.spare_records = 4;
     let made = make(random, &shape);
     script.lend(&made.bytes, made.bytes.len());
-    for field in fields(&made) {
-        for value in edges(&made, &field) {
+    damage_each(random, script, &made, &fields(&made));
+}
+
+/// Each edge value in the fields of the last of 64 sections.
+fn last_of_64(random: &mut Random, script: &mut Script) {
+    let mut shape = files::shape(random);
+    (shape.entries, shape.least_sections, shape.most_sections) = (1, 64, 64);
+    let made = make(random, &shape);
+    script.lend(&made.bytes, made.bytes.len());
+    let fields = fields(&made);
+    damage_each(random, script, &made, &fields[fields.len() - 3..]);
+}
+
+/// Puts each edge value into each of some fields, one at a time, with a few calls.
+fn damage_each(random: &mut Random, script: &mut Script, made: &Made, fields: &[Field]) {
+    for field in fields {
+        for value in edges(made, field) {
             script.again();
             script.poke(field.at, &value);
             if field.entry == 0 {
                 script.call(Call::Validate);
-                script.call(reading(random, &made, 1));
-                append(random, script, shape.settings.lind, 12);
+                script.call(reading(random, made, 1));
+                append(random, script, made.settings.lind, 12);
             } else {
                 script.call(Call::Open(field.entry as u64));
-                script.call(reading(random, &made, field.entry as u64));
+                script.call(reading(random, made, field.entry as u64));
                 script.call(Call::Check);
             }
         }
@@ -166,16 +184,10 @@ fn great_lengths(random: &mut Random, script: &mut Script) {
 fn great_numbers(random: &mut Random, script: &mut Script) {
     let mut settings = files::settings(random);
     settings.lind = random.from(3, 4) as i32;
-    let (reclen, lex1, gex, extensions) = random.pick(&[
-        (46, 4096, 10, 16),
-        (22, 4096, 20, 3),
-        (24, 4096, 15, 4),
-        (23, 4095, 20, 2),
-        (60, 3001, 19, 3),
-        (40, 4096, 20, 2),
-    ]);
+    let grown = [(46, 4096, 10, 16), (22, 4096, 20, 3), (24, 4096, 15, 4), (60, 3001, 19, 3), (40, 4096, 20, 2)];
+    let (reclen, lex1, gex, extensions) = grown[script.turn % 5];
     (settings.reclen, settings.lex1, settings.gex) = (reclen, lex1, gex);
-    let made = make_full(&settings, extensions, random.pick(&[0, 5, 40, 3000]));
+    let made = make_full(&settings, extensions, [0, 5, 40, 3000][script.turn % 4]);
     let entries = together(&settings, extensions);
     script.lend(&made.bytes, made.bytes.len());
     for k in 0..=extensions + 1 {
@@ -185,9 +197,8 @@ fn great_numbers(random: &mut Random, script: &mut Script) {
         all_readings(random, script, &made, entry as u64);
     }
     append(random, script, settings.lind, 6);
-    for xnext in
-        [entries, entries + 2, together(&settings, extensions - 1) + 2, together(&settings, extensions - 1) + 1]
-    {
+    let fewer = together(&settings, extensions - 1);
+    for xnext in [entries, entries + 2, fewer + 2, fewer + 1] {
         script.again();
         script.poke(4 * 6, &(xnext as i64).to_le_bytes());
         script.call(Call::Validate);
@@ -219,11 +230,14 @@ fn cut_and_grown(random: &mut Random, script: &mut Script) {
     }
 }
 
-/// Puts a shape's entries out of order, or lets them overlap, once in so many times.
+/// Puts a shape's entries out of order, lets them overlap or have 65 sections, once in so many times.
 fn disorder(random: &mut Random, shape: &mut Shape, times: usize) {
     if shape.entries > 0 && random.once_in(times) {
-        shape.shuffled = random.once_in(2);
-        shape.overlaps = !shape.shuffled;
+        match random.from(1, 5) {
+            1 | 2 => shape.shuffled = true,
+            3 | 4 => shape.overlaps = true,
+            _ => (shape.least_sections, shape.most_sections) = (62, 65),
+        }
     }
 }
 
@@ -362,7 +376,8 @@ fn fit_exactly(random: &mut Random, script: &mut Script, lind: i32) {
 /// the order is checked.
 fn series(random: &mut Random, script: &mut Script) {
     let mut shape = files::shape(random);
-    shape.spare_records = 1 + random.from(20, 3000) / shape.settings.reclen as usize;
+    shape.settings.lex1 += random.pick(&[0, 1, 6]);
+    shape.spare_records = 1 + random.from(100, 9000) / shape.settings.reclen as usize;
     if random.once_in(2) {
         let made = make(random, &shape);
         script.lend(&made.bytes, made.bytes.len());

@@ -114,11 +114,12 @@ fn following(made: &Made, position: usize) -> i64 {
     starts.filter(|&start| start > position).min().map_or(0, |start| (start - position) as i64)
 }
 
-/// The values to try in a field: near 0, near what it holds, near each limit, near the ends of 32 and 64 bits, and in
-/// wide fields those that meet the held value again in a narrower or a wrapped product.
+/// The values to try in a field: near 0, near what it holds, with one bit of a byte changed, near each limit, near the
+/// ends of 32 and 64 bits, and in wide fields those that meet the held value again in a narrower or a wrapped product.
 pub fn edges(made: &Made, field: &Field) -> Vec<Vec<u8>> {
     let held = if field.wide { made.integer8(field.at) } else { made.integer4(field.at) };
     let mut values = vec![0, 1, -1, held.wrapping_sub(1), held.wrapping_add(1), (1 << 31) - 1, -(1 << 31)];
+    values.extend([8, 16, 24].map(|bit| held ^ (1 << bit)));
     for &limit in &field.limits {
         values.extend([limit.wrapping_sub(1), limit, limit.wrapping_add(1)]);
     }

@@ -2,6 +2,7 @@
 //! before them and then what the accepted appends were given, numbered on, and the order check passes.
 
 use crate::driver::Given;
+use crate::reference::Addition;
 use crate::script::{Asked, Call};
 
 /// What an entry holds: version, application index words, sections in order with their identifiers, data.
@@ -19,25 +20,16 @@ pub fn fault(lent: &[u8], asked: &[Asked], given: &[Given]) -> Option<String> {
     let (mut wanted, mut read) = (vec![], vec![]);
     let mut appended = false;
     for (asked, given) in asked.iter().zip(given) {
-        match &asked.call {
-            Call::Append(_) if given.fields[0] != 0 => appended = true,
+        let result = match &asked.call {
             Call::Append(a) => {
                 appended = true;
-                let mut parts = &a.sections[..];
-                let mut cut = |&length: &i64| take(&mut parts, 4 * length as usize);
-                let sections = a.ids.iter().copied().zip(a.lengths.iter().map(&mut cut)).collect();
-                wanted.push(Content { version: a.version, index: a.index.clone(), sections, data: a.data.clone() });
-                if given.fields[1] != wanted.len() as u64 {
-                    return Some(format!("append {} answers number {}", wanted.len(), given.fields[1]));
-                }
+                accepted(&mut wanted, a, &given.fields)
             }
-            Call::Check if given.fields != [0, 0] => return Some(format!("the order check gives {:?}", given.fields)),
-            call => {
-                let contents = if appended { &mut read } else { &mut wanted };
-                if let Err(fault) = add(contents, call, &given.fields, file) {
-                    return Some(format!("{}: {fault}", call.described()));
-                }
-            }
+            Call::Check if given.fields != [0, 0] => Err("the order check does not pass"),
+            call => reading(if appended { &mut read } else { &mut wanted }, call, &given.fields, file),
+        };
+        if let Err(fault) = result {
+            return Some(format!("{}: {fault}", asked.call.described()));
         }
         file = given.after.as_deref().unwrap_or(file);
     }
@@ -45,27 +37,45 @@ pub fn fault(lent: &[u8], asked: &[Asked], given: &[Given]) -> Option<String> {
     differs.map(|i| format!("entry {} is not read back as it was given", i + 1))
 }
 
-/// Takes so many bytes from the front of a slice.
-fn take(bytes: &mut &[u8], count: usize) -> Vec<u8> {
-    let (front, rest) = bytes.split_at(count);
-    *bytes = rest;
-    front.to_vec()
+/// Adds what an append was given to the contents, if the append was accepted.
+fn accepted(contents: &mut Vec<Content>, a: &Addition, fields: &[u64]) -> Result<(), &'static str> {
+    if fields[0] != 0 {
+        return Ok(());
+    }
+    contents.push(content(a).ok_or("accepted with lengths that are not those of its sections")?);
+    if fields[1] != contents.len() as u64 {
+        return Err("accepted with another number than the next");
+    }
+    Ok(())
+}
+
+/// The content that an append was given, where its lengths cut its section bytes into sections.
+fn content(a: &Addition) -> Option<Content> {
+    let (mut sections, mut rest) = (vec![], &a.sections[..]);
+    for (&id, &length) in a.ids.iter().zip(&a.lengths) {
+        let count = usize::try_from(length).ok()?.checked_mul(4)?;
+        sections.push((id, rest.get(..count)?.to_vec()));
+        rest = &rest[count..];
+    }
+    Some(Content { version: a.version, index: a.index.clone(), sections, data: a.data.clone() })
 }
 
 /// Adds what a reading call gave to the contents: an open begins an entry.
-fn add(contents: &mut Vec<Content>, call: &Call, fields: &[u64], file: &[u8]) -> Result<(), &'static str> {
+fn reading(contents: &mut Vec<Content>, call: &Call, fields: &[u64], file: &[u8]) -> Result<(), &'static str> {
     if fields[0] != 0 {
         return Err("refused");
     }
     if let Call::Open(_) = call {
         contents.push(Content { version: fields[3] as i32, ..Content::default() });
     }
-    let part = || file.get(fields[1] as usize..(fields[1] + fields[2]) as usize).map(<[u8]>::to_vec);
-    let last = contents.last_mut();
-    match (call, last) {
-        (Call::IndexWords(_), Some(entry)) => entry.index = part().ok_or("past the file")?,
-        (Call::Section(_, id), Some(entry)) => entry.sections.push((*id, part().ok_or("past the file")?)),
-        (Call::Data(_), Some(entry)) => entry.data = part().ok_or("past the file")?,
+    let part = || {
+        let (start, length) = (fields[1] as usize, fields[2] as usize);
+        file.get(start..start.wrapping_add(length)).map(<[u8]>::to_vec).ok_or("a part that is not in the file")
+    };
+    match (call, contents.last_mut()) {
+        (Call::IndexWords(_), Some(entry)) => entry.index = part()?,
+        (Call::Section(_, id), Some(entry)) => entry.sections.push((*id, part()?)),
+        (Call::Data(_), Some(entry)) => entry.data = part()?,
         _ => {}
     }
     Ok(())

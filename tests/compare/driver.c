@@ -1,10 +1,10 @@
 /* Calls the library as the cases on standard input ask, and writes every field of every answer to standard output.
    Each lent buffer is a block of its exact size that ends at a page that cannot be touched.
 
-   A case is its size (8 bytes) and its steps; numbers are little-endian. Steps: 'F' total, count, bytes: lends a file of
-   total bytes that begins with these; 'A': the file as it was lent; 'P' place, count, bytes: changes the file; '0' to '8':
-   a call, with a byte that says whether empty slices are (NULL, 0), and its arguments. Each field of an answer is 8 bytes;
-   after create and append the count and the bytes of the file's part that 'F' gave follow. */
+   A case is its size (8 bytes) and its steps; numbers are little-endian. Steps: 'F' total, count, bytes: lends a file
+   of total bytes that begins with these; 'A': the file as it was lent; 'P' place, count, bytes: changes the file;
+   '0' to '8': a call, with a byte that says whether empty slices are (NULL, 0), and its arguments. Each field of an
+   answer is 8 bytes; after create and append the count and the bytes of the file's part that 'F' gave follow. */
 #define _DEFAULT_SOURCE
 #include "classic.h"
 
@@ -137,6 +137,7 @@ static void poke(void) {
     allow(&file, PROT_READ);
 }
 
+/* Creates a file with the settings in the case. */
 static void call_create(uint8_t *bytes) {
     classic_settings s;
     s.reclen = take_integer();
@@ -152,6 +153,7 @@ static void call_create(uint8_t *bytes) {
     put_file();
 }
 
+/* Validates the file. */
 static void call_validate(const uint8_t *bytes) {
     classic_descriptor d = classic_validate(bytes, file.size);
     put(d.refusal);
@@ -169,6 +171,7 @@ static void call_validate(const uint8_t *bytes) {
     for (int i = 0; i < 16; i++) put(d.aex[i]);
 }
 
+/* Asks for an extension. */
 static void call_extension_of(const uint8_t *bytes) {
     classic_extension e = classic_extension_of(bytes, file.size, take_number(8));
     put(e.refusal);
@@ -177,6 +180,7 @@ static void call_extension_of(const uint8_t *bytes) {
     put(e.records);
 }
 
+/* Opens an entry. */
 static void call_open(const uint8_t *bytes) {
     classic_entry e = classic_open(bytes, file.size, take_number(8));
     put(e.refusal);
@@ -199,20 +203,24 @@ static void put_part(classic_part p) {
     put(p.length);
 }
 
+/* Asks for a section. */
 static void call_section(const uint8_t *bytes) {
     uint64_t entry = take_number(8);
     put_part(classic_section(bytes, file.size, entry, take_integer()));
 }
 
+/* Checks the order of the file. */
 static void call_check(const uint8_t *bytes) {
     classic_checked c = classic_check(bytes, file.size);
     put(c.entry);
     put(c.refusal);
 }
 
+/* Appends what the case gives, each slice in a block of its own. */
 static void call_append(uint8_t *bytes, int null) {
     int32_t version = take_integer();
-    block index = take_block(1), ids = take_block(4), lengths = take_block(8), sections = take_block(1), data = take_block(1);
+    block index = take_block(1), ids = take_block(4), lengths = take_block(8);
+    block sections = take_block(1), data = take_block(1);
     allow(&file, PROT_READ | PROT_WRITE);
     classic_appended a =
         classic_append(bytes, file.size, version, pointer(&index, null), index.size, pointer(&ids, null), ids.size / 4,

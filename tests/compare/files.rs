@@ -20,10 +20,11 @@ pub struct Placed {
     pub ids: Vec<i32>,
 }
 
-/// What a made file shall be like: shuffled and overlapping ones are not in order.
+/// What a made file shall be like. Shuffled and overlapping ones are not in order; over 64 sections are refused.
 pub struct Shape {
     pub settings: Settings,
     pub entries: usize,
+    pub least_sections: usize,
     pub most_sections: usize,
     pub gaps: bool,
     pub shuffled: bool,
@@ -125,6 +126,7 @@ pub fn shape(random: &mut Random) -> Shape {
     Shape {
         settings,
         entries: entries.min(24),
+        least_sections: 0,
         most_sections: random.pick(&[0, 2, 3, 3, 5, 64]),
         gaps: !random.once_in(3),
         shuffled: false,
@@ -222,7 +224,7 @@ fn gap(random: &mut Random, shape: &Shape, bound: usize) -> usize {
 
 /// The bytes of an entry and its identifiers: sections and data in any order, with gaps and room for more sections.
 fn entry(random: &mut Random, shape: &Shape, number: usize) -> (Vec<u8>, Vec<i32>) {
-    let nsec = random.from(0, shape.most_sections);
+    let nsec = random.from(shape.least_sections, shape.most_sections);
     let ids = identifiers(random, nsec);
     let ldata = if random.once_in(3) { 0 } else { random.from(1, 20) };
     let mut pieces: Vec<usize> = (0..=nsec).collect();

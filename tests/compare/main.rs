@@ -14,7 +14,7 @@ mod script;
 mod table;
 
 use driver::{Driver, Given};
-use script::{Asked, CALLS};
+use script::{Asked, Call, Script, CALLS};
 use table::Table;
 
 /// Differences after this many are counted and not printed.
@@ -42,6 +42,8 @@ struct Comparison {
     differing_files: usize,
     series: usize,
     failed_series: usize,
+    series_accepted: usize,
+    series_refused: usize,
     shown: usize,
     table: Table,
 }
@@ -99,13 +101,22 @@ impl Comparison {
             }
         }
         if cases::is_series(case) {
-            self.series += 1;
-            if let Some(fault) = demand::fault(&script.lent, &script.asked, &given) {
-                self.failed_series += 1;
-                self.show(case, given.len() - 1, &format!("demand 3: {fault}"));
-            }
+            self.compare_series(case, &script, &given);
         }
         true
+    }
+
+    /// Holds a series to demand 3.
+    fn compare_series(&mut self, case: usize, script: &Script, given: &[Given]) {
+        self.series += 1;
+        let appends = script.asked.iter().zip(given).filter(|(asked, _)| matches!(asked.call, Call::Append(_)));
+        let (accepted, refused): (Vec<_>, Vec<_>) = appends.partition(|(_, given)| given.fields[0] == 0);
+        self.series_accepted += accepted.len();
+        self.series_refused += refused.len();
+        if let Some(fault) = demand::fault(&script.lent, &script.asked, given) {
+            self.failed_series += 1;
+            self.show(case, given.len() - 1, &format!("demand 3: {fault}"));
+        }
     }
 
     /// Compares one answer and the file after it.
@@ -132,7 +143,7 @@ impl Comparison {
         }
     }
 
-    /// Prints a difference with the command that repeats it, unless there were many; the repeating command saves the file.
+    /// Prints a difference with the command that repeats it, unless there were many; that command saves the file.
     fn show(&mut self, case: usize, call: usize, text: &str) {
         self.shown += 1;
         if self.shown > SHOWN {
@@ -166,7 +177,9 @@ impl Comparison {
             judge(name, "calls", self.calls[call], self.differing[call]);
         }
         judge("bytes", "files after create and append", self.files, self.differing_files);
-        judge("demand 3", "series of appends read back", self.series, self.failed_series);
+        let series =
+            format!("series with {} appends accepted and {} refused", self.series_accepted, self.series_refused);
+        judge("demand 3", &series, self.series, self.failed_series);
     }
 
     /// Judges how much was compared: the table, the ways, the count of calls.
@@ -243,6 +256,8 @@ fn main() {
         differing_files: 0,
         series: 0,
         failed_series: 0,
+        series_accepted: 0,
+        series_refused: 0,
         shown: 0,
         table: Table::default(),
     };

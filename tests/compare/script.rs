@@ -35,8 +35,8 @@ pub struct Asked {
     pub after: Option<Vec<u8>>,
 }
 
-/// A case as it grows: the driver's message, the calls asked so far, the file as lent and as it is now; whose turn it is to
-/// lend empty slices as (NULL, 0); and, where a call is watched, the file before it.
+/// A case as it grows: the driver's message, the calls asked so far, the file as lent and as it is now; whose turn it
+/// is to lend empty slices as (NULL, 0); and, where a call is watched, the file before it.
 #[derive(Default)]
 pub struct Script {
     pub message: Vec<u8>,

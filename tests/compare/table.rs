@@ -117,8 +117,8 @@ impl Table {
         for (call, name) in CALLS.iter().enumerate() {
             for refusal in 0..=25 {
                 match (admits(call, refusal), self.cell(call, refusal)) {
-                    (true, 0) => wrong.push(format!("{name} never gave {refusal}")),
-                    (false, seen) if seen > 0 => wrong.push(format!("{name} gave {refusal}, which 01 does not admit")),
+                    (true, 0) => wrong.push(format!("no agreed answer {refusal} of {name}")),
+                    (false, seen) if seen > 0 => wrong.push(format!("{refusal} of {name}, which 01 does not admit")),
                     _ => {}
                 }
             }
