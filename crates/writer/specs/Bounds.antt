@@ -1,7 +1,7 @@
 -- What the rules of an append leave once they are passed, as the functions behind them ask for it.
 use Prim.Native.Nat.{ℕ, _+_, _*_, _-_, _/_, _%_, _^_, _≤_, _<_}
 use mathlib.Core.Path.{_≡_}
-use mathlib.Core.Bool.{true}
+use mathlib.Core.Bool.{Bool, true}
 use mathlib.Core.List.{List}
 use lib.ListN.{length}
 use Rattle.geometry.specs.declared.units.RecordNumber.{RecordNumber}
@@ -32,6 +32,11 @@ pub record Accepted (bytes : ℕ) (d : DescriptorNumbers) (addresses : List Reco
   pub fitting : Fitting d h
   pub extensible : Extensible d
   pub inside : entryStart d + nwordIn h ≤ bytes / 4
+
+-- and whether it makes an extension is known: all that storing asks for
+pub record Storing (bytes : ℕ) (d : DescriptorNumbers) (addresses : List RecordNumber) (h : Handed) (extend : Bool) : Type 0 where
+  pub accepted : Accepted bytes d addresses h
+  pub extends : extend ≡ full d
 
 -- numbers that fit the words of the first record
 pub record Storable (d : DescriptorNumbers) : Type 0 where

@@ -28,7 +28,7 @@ ghost use Rattle.writer.specs.Placing.{full};
 ghost use Rattle.writer.specs.Rules.{appendRefusal};
 ghost use Rattle.writer.specs.Writing.{appended};
 ghost use Rattle.writer.specs.Answers.{acceptedFrom, appendedFrom, fileFrom};
-ghost use Rattle.writer.specs.Bounds.{Accepted};
+ghost use Rattle.writer.specs.Bounds.{Storing};
 
 // The answer of `append_from`: the refusal, 0 when accepted; the new number, 0 when refused; and the
 // numbers and addresses of the file as it is after the call.
@@ -85,7 +85,7 @@ fn store(
     sections: &[u8],
     values: &[u8],
 ) -> AppendedFrom
-    requires { ⌜ Accepted (length (now file)) d addresses (handedIn version (now index) (now ids) (now lengths) (now sections) (now values)) × (extend ≡ full d) ⌝ }
+    requires { ⌜ Storing (length (now file)) d addresses (handedIn version (now index) (now ids) (now lengths) (now sections) (now values)) extend ⌝ }
     ensures answer { λ r. ⌜ r ≡ acceptedFrom d addresses (handedIn version (now (index .entry)) (now (ids .entry)) (now (lengths .entry)) (now (sections .entry)) (now (values .entry))) ⌝ }
     ensures bytes { λ r. ⌜ now (file .exit) ≡ appended (now (file .entry)) d addresses (handedIn version (now (index .entry)) (now (ids .entry)) (now (lengths .entry)) (now (sections .entry)) (now (values .entry))) ⌝ }
 {

@@ -36,7 +36,12 @@ returns c =
 store-requires : tie.Need-store-requires
 store-requires c κs =
     let s = c .before .before .before .before .before .before .before .before in
-    (rw (toZ-ofZ (s .fits .version)) (accepted (s .args .d) (handed s) (length (s .args .file .now)) (s .args .addresses) (s .pre) (sym (refused (c .before .before)) ∙ c .before .if1 .left)), c .before .before .before .is-full .ensures)
+    record {
+      accepted =
+          rw (toZ-ofZ (s .fits .version))
+          (accepted (s .args .d) (handed s) (length (s .args .file .now)) (s .args .addresses) (s .pre) (sym (refused (c .before .before)) ∙ c .before .if1 .left));
+      extends = c .before .before .before .is-full .ensures;
+    }
 
 same-length : tie.Need-same-length
 same-length c = search needs

@@ -23,7 +23,7 @@ abbrev handed : tie.Start → Handed
 handed s = handedIn (s .args .version) (s .args .index .now) (s .args .ids .now) (s .args .lengths .now) (s .args .sections .now) (s .args .values .now)
 
 accepted : (s : tie.Start) → Accepted (length (s .args .file .now)) (s .args .d) (s .args .addresses) (handed s)
-accepted s = s .pre .0
+accepted s = s .pre .accepted
 
 -- the head, and the numbers after the append
 headed : (c : tie.After-head-of) → let s = (c .before .before .before .before .before .before .before) in c .head-of .result ≡ headOf (handed s) (s .args .d .xnext)
@@ -83,13 +83,13 @@ numbers-after-requires c κs =
     let s = (c .before .before .before .before .before .before .before .before) in
     let x = accepted s in
     let n = ap (λ (r : Head). r .nword) (headed (c .before)) ∙ head-nword (handed s) (s .args .d .xnext) in
-    (x .admitted .settled, xnext-small _ _ _ (x .admitted), s .pre .1, omega (arith, entry-small _ _ _ _ x, (c .before .before) .entry-start .ensures, n))
+    (x .admitted .settled, xnext-small _ _ _ (x .admitted), s .pre .extends, omega (arith, entry-small _ _ _ _ x, (c .before .before) .entry-start .ensures, n))
 
 addresses-after-requires : tie.Need-addresses-after-requires
 addresses-after-requires c κs =
     let s = (c .before .before .before .before .before .before .before .before .before) in
     let x = accepted s in
-    (x .admitted .settled, x .admitted .free, free-small _ _ _ (x .admitted), s .pre .1, x .extensible)
+    (x .admitted .settled, x .admitted .free, free-small _ _ _ (x .admitted), s .pre .extends, x .extensible)
 
 slot-position-requires : tie.Need-slot-position-requires
 slot-position-requires c κs =
@@ -103,7 +103,7 @@ put-area-requires c κs =
     let s = (c .before .before .before .before .before .before .before .before .before .before .before .before) in
     let x = accepted s in
     let e = (c .before .before .before .before .before .before) .entry-start .ensures in
-    (x .admitted .settled, x .admitted .free, free-small _ _ _ (x .admitted), s .pre .1, x .extensible, e, omega (arith, e, entry-small _ _ _ _ x), omega (arith, e, entry-within _ _ _ _ x), x .admitted .lent .first)
+    (x .admitted .settled, x .admitted .free, free-small _ _ _ (x .admitted), s .pre .extends, x .extensible, e, omega (arith, e, entry-small _ _ _ _ x), omega (arith, e, entry-within _ _ _ _ x), x .admitted .lent .first)
 
 put-head-requires : tie.Need-put-head-requires
 put-head-requires c κs =
