@@ -93,15 +93,15 @@ start-bounds d place s small h =
     (records .0, omega (arith, mul-le-mul-left (place .«record» .0 - 1) some), words .0, words .1, ends)
 
 -- the parts of the table that are left after the descriptor, the start and the number
-abbrev contents : List ℕ → DescriptorNumbers → Place → List Rule
+abbrev pub contents : List ℕ → DescriptorNumbers → Place → List Rule
 contents file d place =
     let start = startOf d place in
     contentRules file start (nsecOf file start) (nwordOf file start) (dataOf file start)
 
-abbrev afterStart : List ℕ → DescriptorNumbers → EntryNumber → Place → List Rule
+abbrev pub afterStart : List ℕ → DescriptorNumbers → EntryNumber → Place → List Rule
 afterStart file d e place = headRules file d (startOf d place) e ++ contents file d place
 
-abbrev afterNumber : List ℕ → DescriptorNumbers → EntryNumber → Place → List Rule
+abbrev pub afterNumber : List ℕ → DescriptorNumbers → EntryNumber → Place → List Rule
 afterNumber file d e place = startRules d place ++ afterStart file d e place
 
 -- what the rules up to 16 leave, before the contents are looked at

@@ -3,3 +3,4 @@ pub mod Pieces
 pub mod SectionTables
 pub mod Entering
 pub mod Handing
+pub mod Agreeing

@@ -114,7 +114,11 @@ sectionWordsOf file e identifier = partIn (validationOf file .numbers) (λ d. se
 abbrev pub dataWordsOf : List ℕ → EntryNumber → PartPlace
 dataWordsOf file e = partIn (validationOf file .numbers) (λ d. dataPart file d (validationOf file .addresses) e)
 
+-- the bytes of a part
+abbrev pub bytesOf : List ℕ → PartPlace → List ℕ
+bytesOf file p = part file (p .start) (p .end - p .start)
+
 -- r is the very part of the lent slice that a place names: its bytes, and where it points
 pub record IsPart (file : RefT (List ℕ)) (p : PartPlace) (r : RefT (List ℕ)) : Type 0 where
-  pub bytes : r .now ≡ part (file .now) (p .start) (p .end - p .start)
+  pub bytes : r .now ≡ bytesOf (file .now) p
   pub pointer : r .ptr ≡ (file .ptr .0, p .start + file .ptr .1)

@@ -35,7 +35,7 @@ use Rattle.writer.proofs.Places.{new-small, start-low}
 -- ---- what an append does not change
 
 module _ (d : DescriptorNumbers) (end : ℕ) where
-  after-same : (addresses : List RecordNumber) (k : ℕ) → areaAfter (numbersAfter d end) addresses k ≡ areaAfter d addresses k
+  pub after-same : (addresses : List RecordNumber) (k : ℕ) → areaAfter (numbersAfter d end) addresses k ≡ areaAfter d addresses k
   unfolding numbersAfter areaAfter
   after-same addresses zero = refl
   after-same addresses (suc k) = refl
@@ -48,7 +48,7 @@ module _ (d : DescriptorNumbers) (end : ℕ) where
 
 -- the areas of the first k addresses look at no other address
 module _ (d : DescriptorNumbers) (xs ys : List RecordNumber) where
-  after-agree : (k : ℕ) → (1 ≤ k → aexOf xs k ≡ aexOf ys k) → areaAfter d xs k ≡ areaAfter d ys k
+  pub after-agree : (k : ℕ) → (1 ≤ k → aexOf xs k ≡ aexOf ys k) → areaAfter d xs k ≡ areaAfter d ys k
   unfolding areaAfter
   after-agree zero e = refl
   after-agree (suc k) e = ap (λ (r : RecordNumber). r .0 + areaRecords (capacityOf (growthIn d) (suc k)) (d .lind) (d .reclen)) (e (omega arith))
@@ -141,14 +141,14 @@ module _ (bytes : ℕ) (d : DescriptorNumbers) (addresses : List RecordNumber) (
           (rw (le-leb (d .xnext .0) (totalOf g (d .nex)) (omega (arith, a .counted)), lt-ltb (totalOf g (d .nex - 1)) (d .xnext .0) (omega (arith, fit-full g n (d .nex) used (a .fit)))))
 
   -- the areas keep their order: those in use, and the new one behind them
-  addresses-kept : (k : ℕ) → 1 ≤ k → k ≤ d .nex → aexOf (addressesAfter d addresses) k ≡ aexOf addresses k
+  pub addresses-kept : (k : ℕ) → 1 ≤ k → k ≤ d .nex → aexOf (addressesAfter d addresses) k ≡ aexOf addresses k
   unfolding addressesAfter
   addresses-kept k h l =
       either (full d)
       (λ q. rw q (getD-set-other addresses (d .nex) (k - 1) (newArea d) (record { 0 = 0 }) (λ (e : k - 1 ≡ d .nex). omega arith)))
       (λ q. rw q)
 
-  address-new : full d ≡ true → aexOf (addressesAfter d addresses) (d .nex + 1) ≡ newArea d
+  pub address-new : full d ≡ true → aexOf (addressesAfter d addresses) (d .nex + 1) ≡ newArea d
   unfolding addressesAfter
   address-new q =
       let e : d .nex + 1 - 1 ≡ d .nex = omega arith in

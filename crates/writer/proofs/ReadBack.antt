@@ -96,7 +96,7 @@ module _ (bytes : ℕ) (d : DescriptorNumbers) (addresses : List RecordNumber) (
       )
 
   -- the index of an entry in use stands behind the first record
-  slot-low : (e : EntryNumber) → 1 ≤ e .0 → e .0 ≤ entriesBefore (d .xnext) → d .reclen ≤ slotPositionOf d addresses e
+  pub slot-low : (e : EntryNumber) → 1 ≤ e .0 → e .0 ≤ entriesBefore (d .xnext) → d .reclen ≤ slotPositionOf d addresses e
   unfolding slotPositionOf positionOf
   slot-low e l h =
       let s = slotOf (growthIn d) (d .nex) (d .lind) e in

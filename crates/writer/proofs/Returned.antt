@@ -11,9 +11,7 @@ use borrow.Author.Tests.{lt-ltb, eq-eqb, ne-eqb, eqb-true, eqb-false, not-true}
 use lib.Dec.{eqb}
 use lib.IntN.{ℤ, pos}
 use lib.ListN.{length, getD, take}
-use mir.Val.{SFits}
 use Rattle.image.specs.Image.{part}
-use Rattle.words.specs.Word.{integer4}
 use Rattle.words.specs.Table.{places}
 use Rattle.words.proofs.Table.{places-same}
 use Rattle.words.proofs.Runs.{run-test}
@@ -34,10 +32,10 @@ use Rattle.entry.specs.Opening.{enteredOf}
 use Rattle.entry.specs.Contents.{firstContent}
 use Rattle.entry.specs.Tables.{identifiersOf, lengthsOf, sectionsOf, sectionNamed}
 use Rattle.entry.specs.Tables as tables
-use Rattle.entry.specs.Answers.{openedAs, openOf, dataPlaceOf, noPart, partIn, wordsFrom, pieceFrom, indexPart, sectionPart, dataPart, indexWordsOf, sectionWordsOf, dataWordsOf}
+use Rattle.entry.specs.Answers.{openedAs, openOf, dataPlaceOf, noPart, partIn, wordsFrom, pieceFrom, indexPart, sectionPart, dataPart, indexWordsOf, sectionWordsOf, dataWordsOf, bytesOf}
 use Rattle.entry.proofs.SectionTables.{named, same-equal}
 use Rattle.entry.proofs.Handing.{open-numbers}
-use Rattle.writer.specs.Handed.{Handed, wordsOf, sumOf, distinct, nsecIn, ldataIn, nwordIn}
+use Rattle.writer.specs.Handed.{Handed, Integers, wordsOf, sumOf, distinct, nsecIn, ldataIn, nwordIn}
 use Rattle.writer.specs.Placing.{entryStart, numbersAfter, addressesAfter}
 use Rattle.writer.specs.Rules.{appendRefusal}
 use Rattle.writer.specs.Writing.{headOf, appended}
@@ -49,11 +47,6 @@ use Rattle.writer.proofs.HandedIn.{absent-run, distinct-run, accepted, 
 use Rattle.writer.proofs.Accepting.{value-bytes, slotThen}
 use Rattle.writer.proofs.ReadBack.{validated-after}
 use Rattle.writer.proofs.Reopened.{piece, array, entered-new, identifier-new, section-new, index-new, section-read, data-read, adata-some}
-
--- the integers handed in are ones that their words can hold, as an i32's are
-pub record Integers (h : Handed) : Type 0 where
-  pub version : SFits integer4 (h .version)
-  pub ids : (i : ℕ) → i < nsecIn h → SFits integer4 (getD (h .ids) i (pos 0))
 
 -- of identifiers that are distinct, two that are equal are one
 same-place : (ids : List ℤ) (n i j : ℕ) → distinct ids n ≡ true → i < n → j < n → getD ids i (pos 0) ≡ getD ids j (pos 0) → i ≡ j
@@ -68,10 +61,6 @@ same-place ids n i j t h l e =
         let z = getD ids j (pos 0) in
         let other = not-true _ (run-test (absent-run ids z) i j h (run-test (distinct-run ids) j n l t)) in
         false≢true (sym other ∙ same-equal (getD ids i (pos 0)) z e)
-
--- the bytes of a part
-abbrev pub bytesOf : List ℕ → PartPlace → List ℕ
-bytesOf file p = part file (p .start) (p .end - p .start)
 
 empty : (file ys : List ℕ) → length ys ≡ 0 → part file 0 0 ≡ ys
 unfolding part

@@ -1,9 +1,11 @@
 -- What is handed to an append, and its numbers.
-use Prim.Native.Nat.{ℕ, zero, suc, _+_, _*_, _/_}
+use Prim.Native.Nat.{ℕ, zero, suc, _+_, _*_, _/_, _<_}
 use mathlib.Core.Bool.{Bool, true, not, _&&_}
 use mathlib.Core.List.{List, [], _∷_}
 use lib.IntN.{ℤ, pos, negsuc}
 use lib.ListN.{length, getD}
+use mir.Val.{SFits}
+use Rattle.words.specs.Word.{integer4}
 use Rattle.words.specs.Range.{atLeast}
 use Rattle.entry.specs.Tables.{sameInteger}
 
@@ -15,6 +17,11 @@ pub record Handed : Type 0 where
   pub lengths : List ℤ
   pub sections : List ℕ
   pub values : List ℕ
+
+-- the integers handed in are ones that their words can hold, as an i32's are
+pub record Integers (h : Handed) : Type 0 where
+  pub version : SFits integer4 (h .version)
+  pub ids : (i : ℕ) → i < length (h .ids) → SFits integer4 (getD (h .ids) i (pos 0))
 
 -- a length as a count of words; a negative one is refused and counts as none
 abbrev pub wordsOf : ℤ → ℕ

@@ -1,0 +1,3 @@
+-- The theorems.
+pub mod Areas
+pub mod EntriesStay

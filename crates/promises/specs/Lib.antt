@@ -1,0 +1,4 @@
+-- What the theorems of `promises` speak of: the contents of a file, a series of calls, the regions of a file.
+pub mod Contents
+pub mod Calls
+pub mod Regions
