@@ -21,6 +21,13 @@ module _ (bytes : ℕ) (d : DescriptorNumbers) (addresses : List RecordNumber) (
   unfolding positionOf
   area-free k h = omega (arith, area-ends bytes d addresses a k h)
 
+  -- and no later than a later one
+  pub area-end-le : (j k : ℕ) → j ≤ k → k ≤ d .nex → areaEndOf d addresses j ≤ areaEndOf d addresses k
+  unfolding positionOf
+  area-end-le j k h m =
+      let less : areaAfter d addresses j - 1 ≤ areaAfter d addresses k - 1 = omega (arith, after-le bytes d addresses a j k h m) in
+      omega (arith, mul-le-mul-right (d .reclen) less)
+
   -- the first record ends before an area starts
   pub area-behind : (k : ℕ) → 1 ≤ k → k ≤ d .nex → d .reclen ≤ areaStartOf d addresses k
   unfolding positionOf

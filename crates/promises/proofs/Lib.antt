@@ -1,3 +1,6 @@
 -- The theorems.
 pub mod Areas
+pub mod Spread
 pub mod EntriesStay
+pub mod SoundAfter
+pub mod Readings

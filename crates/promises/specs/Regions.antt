@@ -40,9 +40,12 @@ NoneShared file d addresses =
     (p q : Region) → InUse d p → InUse d q → (p ≡ q → ⊥)
     → (toOf file d addresses p ≤ fromOf file d addresses q) ⊎ (toOf file d addresses q ≤ fromOf file d addresses p)
 
--- a file from which appends are safe: it is admitted, all its entries open, and no two of its regions share a word
+-- validated numbers all of whose entries open, and no two of whose regions share a word
+pub record SoundIn (file : List ℕ) (d : DescriptorNumbers) (addresses : List RecordNumber) : Type 0 where
+  pub opens : (e : ℕ) → 1 ≤ e → e ≤ entriesBefore (d .xnext) → entryRefusal file d addresses (record { 0 = e }) ≡ 0
+  pub apart : NoneShared file d addresses
+
+-- a file from which appends are safe: it is admitted, and its numbers are such
 pub record Sound (file : List ℕ) : Type 0 where
   pub admitted : fileRefusal file ≡ 0
-  pub opens : (e : ℕ) → 1 ≤ e → e ≤ entriesBefore (numbersOf file .xnext)
-      → entryRefusal file (numbersOf file) (addressesOf file (numbersOf file .nex)) (record { 0 = e }) ≡ 0
-  pub apart : NoneShared file (numbersOf file) (addressesOf file (numbersOf file .nex))
+  pub inside : SoundIn file (numbersOf file) (addressesOf file (numbersOf file .nex))

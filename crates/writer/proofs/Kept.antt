@@ -182,7 +182,7 @@ module _ (bytes : ℕ) (d : DescriptorNumbers) (addresses : List RecordNumber) (
       (λ q. rw (nex-kept d q) starts-kept)
 
   -- the last area ends before the entry
-  area-ends-after : positionOf (d .reclen) (record { 0 = areaAfter d (addressesAfter d addresses) (nexAfter d) }) (record { 0 = 1 }) ≤ entryStart d
+  pub area-ends-after : positionOf (d .reclen) (record { 0 = areaAfter d (addressesAfter d addresses) (nexAfter d) }) (record { 0 = 1 }) ≤ entryStart d
   unfolding entryStart afterNewArea positionOf
   area-ends-after =
       either (full d)

@@ -1,0 +1,77 @@
+-- That no two regions of admitted numbers share a word comes to two facts of the entries: each stands beside every index area, and beside every other. Assumes nothing.
+use Prim.Native.Nat.{ℕ, _+_, _≤_, _<_}
+use mathlib.Core.Path.{_≡_, refl, sym, ap}
+use mathlib.Core.Logic.{_⊎_, inl, inr}
+use mathlib.Core.List.{List}
+use native.Mathlib.Omega.{arith}
+use native.Mathlib.Nat.{lt-of-not-le}
+use native.Mathlib.Decide.{decLe}
+use Rattle.geometry.specs.declared.units.RecordNumber.{RecordNumber}
+use Rattle.geometry.specs.Units.{entriesBefore}
+use Rattle.descriptor.specs.declared.numbers.DescriptorNumbers.{DescriptorNumbers}
+use Rattle.descriptor.specs.Bounds.{Admitted}
+use Rattle.entry.specs.declared.opening.Entered.{Entered}
+use Rattle.entry.specs.Opening.{enteredOf}
+use Rattle.order.specs.Order.{areaStartOf, areaEndOf, endOf}
+use Rattle.promises.specs.Regions.{Region, firstRecord, area, entry, InUse, fromOf, toOf, NoneShared}
+use Rattle.promises.proofs.Areas.{area-behind, areas-order}
+
+-- the words a to b and c to d: one run ends before the other starts
+abbrev pub Clear : ℕ → ℕ → ℕ → ℕ → Type 0
+Clear a b c d = (b ≤ c) ⊎ (d ≤ a)
+
+pub swap : {a b c d : ℕ} → Clear a b c d → Clear c d a b
+swap (inl l) = inr l
+swap (inr l) = inl l
+
+pub clear-by : {a b c d a′ b′ c′ d′ : ℕ} → a ≡ a′ → b ≡ b′ → c ≡ c′ → d ≡ d′ → Clear a′ b′ c′ d′ → Clear a b c d
+clear-by p q r s (inl l) = inl (omega arith)
+clear-by p q r s (inr l) = inr (omega arith)
+
+-- entry e of validated numbers
+abbrev pub entryAt : List ℕ → DescriptorNumbers → List RecordNumber → ℕ → Entered
+entryAt file d addresses e = enteredOf file d addresses (record { 0 = e })
+
+-- the entries stand behind the first record, beside the areas in use, and beside one another
+pub record Spread (file : List ℕ) (d : DescriptorNumbers) (addresses : List RecordNumber) : Type 0 where
+  pub behind : (e : ℕ) → 1 ≤ e → e ≤ entriesBefore (d .xnext) → d .reclen ≤ entryAt file d addresses e .start
+  pub areas : (e k : ℕ) → 1 ≤ e → e ≤ entriesBefore (d .xnext) → 1 ≤ k → k ≤ d .nex
+      → Clear (entryAt file d addresses e .start) (endOf (entryAt file d addresses e)) (areaStartOf d addresses k) (areaEndOf d addresses k)
+  pub entries : (e f : ℕ) → 1 ≤ e → e < f → f ≤ entriesBefore (d .xnext)
+      → Clear (entryAt file d addresses e .start) (endOf (entryAt file d addresses e)) (entryAt file d addresses f .start) (endOf (entryAt file d addresses f))
+
+-- two numbers that differ, by which is less
+pub by-order {ℓ} : {X : Type ℓ} (a b : ℕ) → (a ≡ b → ⊥) → (a < b → X) → (b < a → X) → X
+by-order a b n f g =
+    elim (decLe a b) [
+      | yes l ↦ elim (decLe b a) [ yes m ↦ absurd (n (omega arith)) | no m ↦ f (lt-of-not-le m) ]
+      | no l ↦ g (lt-of-not-le l)
+    ]
+
+module _ (file : List ℕ) (d : DescriptorNumbers) (addresses : List RecordNumber) where
+  pub spread-apart : (bytes : ℕ) → Admitted bytes d addresses → Spread file d addresses → NoneShared file d addresses
+  unfolding fromOf toOf
+  spread-apart bytes a s firstRecord firstRecord p q n = absurd (n refl)
+  spread-apart bytes a s firstRecord (area k) p q n = inl (area-behind bytes d addresses a k (q .0) (q .1))
+  spread-apart bytes a s firstRecord (entry e) p q n = inl (s .behind e (q .0) (q .1))
+  spread-apart bytes a s (area k) firstRecord p q n = inr (area-behind bytes d addresses a k (p .0) (p .1))
+  spread-apart bytes a s (area j) (area k) p q n =
+      by-order j k (λ e. n (ap area e)) (λ l. inl (areas-order bytes d addresses a j k (p .0) l (q .1))) (λ l. inr (areas-order bytes d addresses a k j (q .0) l (p .1)))
+  spread-apart bytes a s (area k) (entry e) p q n = swap (s .areas e k (q .0) (q .1) (p .0) (p .1))
+  spread-apart bytes a s (entry e) firstRecord p q n = inr (s .behind e (p .0) (p .1))
+  spread-apart bytes a s (entry e) (area k) p q n = s .areas e k (p .0) (p .1) (q .0) (q .1)
+  spread-apart bytes a s (entry e) (entry f) p q n =
+      by-order e f (λ m. n (ap entry m)) (λ l. s .entries e f (p .0) l (q .1)) (λ l. swap (s .entries f e (q .0) l (p .1)))
+
+  module _ (n : NoneShared file d addresses) where
+    -- and back: an entry is beside every area
+    pub apart-area : (e k : ℕ) → 1 ≤ e → e ≤ entriesBefore (d .xnext) → 1 ≤ k → k ≤ d .nex
+        → Clear (entryAt file d addresses e .start) (endOf (entryAt file d addresses e)) (areaStartOf d addresses k) (areaEndOf d addresses k)
+    unfolding fromOf toOf
+    apart-area e k l h m o = n (entry e) (area k) (l, h) (m, o) (λ q. let z : _≡_ {A = ℕ} 0 1 = cc in omega arith)
+
+    -- and beside every other
+    pub apart-entry : (e f : ℕ) → 1 ≤ e → e < f → f ≤ entriesBefore (d .xnext)
+        → Clear (entryAt file d addresses e .start) (endOf (entryAt file d addresses e)) (entryAt file d addresses f .start) (endOf (entryAt file d addresses f))
+    unfolding fromOf toOf
+    apart-entry e f l h m = n (entry e) (entry f) (l, omega arith) (omega arith, m) (λ q. let same : e ≡ f = cc in omega arith)
