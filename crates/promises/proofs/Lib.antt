@@ -4,3 +4,6 @@ pub mod Spread
 pub mod EntriesStay
 pub mod SoundAfter
 pub mod Readings
+pub mod AppendAdds
+pub mod Refusing
+pub mod Series

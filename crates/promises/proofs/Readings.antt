@@ -4,17 +4,18 @@ use mathlib.Core.Path.{_≡_, refl, sym, ap, ap₂, _∙_}
 use mathlib.Core.List.{List, [], _∷_, _++_, map}
 use native.Mathlib.Omega.{arith}
 use lib.IntN.{ℤ, pos}
-use lib.ListN.{length, getD, take, drop}
+use lib.ListN.{length, getD, take, drop, length-append}
 use lib.Seq.{drop-drop}
 use Rattle.image.specs.Image.{part}
 use Rattle.words.specs.Table.{places}
 use Rattle.geometry.specs.declared.units.EntryNumber.{EntryNumber}
+use Rattle.descriptor.specs.Answers.{validationOf}
 use Rattle.entry.specs.declared.answers.Open.{Open}
 use Rattle.entry.specs.declared.answers.Open.the-variants.{Numbers, Refused}
 use Rattle.entry.specs.declared.answers.Opened.{Opened}
 use Rattle.entry.specs.Answers.{openOf, bytesOf, indexWordsOf, sectionWordsOf, dataWordsOf}
 use Rattle.writer.specs.Handed.{wordsOf, sumOf}
-use Rattle.promises.specs.Contents.{Section, Content, Reading, holds, sectionRead, contentRead, readingAs, readingOf, inOrder}
+use Rattle.promises.specs.Contents.{Section, Content, Reading, holds, sectionRead, contentRead, readingAs, readingOf, entriesIn, inOrder, contents}
 use Rattle.promises.specs.Calls.{sectionsCut}
 
 -- what is found under a number in two files that answer alike
@@ -48,6 +49,16 @@ pub inOrder-same : {A : Type 0} (f g : ℕ → A) (n : ℕ) → ((k : ℕ) → 1
 inOrder-same f g zero e = refl
 inOrder-same {A} f g (suc n) e =
     ap₂ (λ (l : List A) (y : A). l ++ (y ∷ [])) (inOrder-same f g n (λ k l h. e k l (omega arith))) (e (suc n) (omega arith) (omega arith))
+
+-- and there are n of them
+pub inOrder-length : {A : Type 0} (f : ℕ → A) (n : ℕ) → length (inOrder f n) ≡ n
+inOrder-length f zero = refl
+inOrder-length f (suc n) = length-append (inOrder f n) (f (suc n) ∷ []) ∙ omega (arith, inOrder-length f n)
+
+-- a file has as many contents as entries
+pub length-contents : (file : List ℕ) → length (contents file) ≡ entriesIn (validationOf file .numbers)
+unfolding contents
+length-contents file = inOrder-length (λ k. readingOf file (record { 0 = k })) (entriesIn (validationOf file .numbers))
 
 -- the filled places of a table of a list's members are the list
 pub places-all : (xs : List ℤ) (m : ℕ) → length xs ≤ m → take (length xs) (places m (length xs) (λ i. getD xs i (pos 0)) (pos 0)) ≡ xs

@@ -1,5 +1,5 @@
 -- A series of calls that change a file: what they answer, what they leave, and what was accepted.
-use Prim.Native.Nat.{ℕ, _*_, _+_}
+use Prim.Native.Nat.{ℕ, zero, suc, _+_}
 use mathlib.Core.Bool.{cond}
 use mathlib.Core.List.{List, [], _∷_, _++_}
 use lib.Dec.{eqb}
@@ -63,3 +63,8 @@ accepted (c ∷ cs) (a ∷ given) = added c a ++ accepted cs given
 abbrev pub numbersGiven : List Appended → List ℕ
 numbersGiven [] = []
 numbersGiven (a ∷ given) = cond (eqb (a .refusal) 0) (a .number .0 ∷ numbersGiven given) (numbersGiven given)
+
+-- n + 1, n + 2, .., m of them
+abbrev pub following : ℕ → ℕ → List ℕ
+following n zero = []
+following n (suc m) = (n + 1) ∷ following (n + 1) m
