@@ -33,6 +33,7 @@ use Rattle.writer.proofs.Frame.{Beside, frame}
 use Rattle.writer.proofs.Accepting.{after, admitted-after, number-last, slotThen}
 use Rattle.writer.proofs.ReadBack.{slot-low}
 use Rattle.promises.proofs.Areas.{areas-order, area-holds}
+use Rattle.promises.proofs.Spread.{opened-behind, opened-free}
 
 module _ (file : List ℕ) (d : DescriptorNumbers) (addresses : List RecordNumber) (h : Handed) (x : Accepted (length file) d addresses h) where
   -- the file after the append, its numbers and its addresses
@@ -125,20 +126,6 @@ module _ (file : List ℕ) (d : DescriptorNumbers) (addresses : List RecordNumbe
     abbrev nword : ℕ
     nword = enteredOf file d addresses e .nword
 
-    -- it stands behind the first record, and before the next free position
-    pub entry-behind : d .reclen ≤ start
-    unfolding positionOf
-    entry-behind =
-        let o = entry-opens file d addresses e (x .admitted) opens in
-        let place = opening.placeOf file (slotPositionOf d addresses e) in
-        let some : 1 ≤ place .«record» .0 - 1 = omega (arith, o .record-low) in
-        omega (arith, ap (λ (y : Entered). y .start) (entered-numbers file d addresses e opens), mul-le-mul-right (d .reclen) some)
-
-    pub entry-free : start + nword ≤ freeOf d
-    entry-free =
-        let entered = entered-numbers file d addresses e opens in
-        omega (arith, ap (λ (y : Entered). y .start) entered, ap (λ (y : Entered). y .nword) entered, entry-opens file d addresses e (x .admitted) opens .ends)
-
     -- where the new slot does not meet it, all of it stays
     pub agrees : Beside start nword slotNew (d .lind) → Agrees file new d then addresses areasThen e
     agrees clear =
@@ -155,7 +142,7 @@ module _ (file : List ℕ) (d : DescriptorNumbers) (addresses : List RecordNumbe
           free = free-grows;
           slot = slot-stays e (o .number-low) (o .number-high);
           index = stays (4 * slot) (4 * d .lind) (omega arith) (omega arith) (inl (omega (arith, slots-beside e (o .number-low) (o .number-high))));
-          same = stays (4 * start) (4 * nword) (omega (arith, entry-behind)) (omega (arith, entry-free)) (wide clear);
+          same = stays (4 * start) (4 * nword) (omega (arith, opened-behind file d addresses (x .admitted) e opens)) (omega (arith, opened-free file d addresses (x .admitted) e opens)) (wide clear);
         }
       where
         wide : Beside start nword slotNew (d .lind) → Beside (4 * start) (4 * nword) (4 * slotNew) (4 * d .lind)

@@ -3,6 +3,8 @@ pub mod Areas
 pub mod Spread
 pub mod EntriesStay
 pub mod SoundAfter
+pub mod OrderPassed
+pub mod OrderSound
 pub mod Readings
 pub mod AppendAdds
 pub mod Refusing

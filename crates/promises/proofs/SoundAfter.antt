@@ -34,8 +34,8 @@ use Rattle.writer.proofs.ReadBack.{first-free}
 use Rattle.writer.proofs.Reopened.{not-refused, entered-new}
 use Rattle.promises.specs.Regions.{SoundIn}
 use Rattle.promises.proofs.Areas.{area-end-le, area-holds}
-use Rattle.promises.proofs.Spread.{Clear, clear-by, entryAt, Spread, spread-apart, apart-area, apart-entry}
-use Rattle.promises.proofs.EntriesStay.{entry-behind, entry-free, agrees}
+use Rattle.promises.proofs.Spread.{Clear, clear-by, entryAt, Spread, opened-behind, opened-free, spread-apart, apart-area, apart-entry}
+use Rattle.promises.proofs.EntriesStay.{agrees}
 
 -- a number up to n + 1 is one up to n, or the last
 by-last {ℓ} : {X : Type ℓ} (n k : ℕ) → k ≤ n + 1 → (k ≤ n → X) → (k ≡ n + 1 → X) → X
@@ -153,7 +153,7 @@ module _ (file : List ℕ) (d : DescriptorNumbers) (addresses : List RecordNumbe
     opens = s .opens e low high
 
     ends : endOf old ≤ freeOf d
-    ends = entry-free file d addresses h x (record { 0 = e }) opens
+    ends = opened-free file d addresses (x .admitted) (record { 0 = e }) opens
 
     -- and meets no entry
     slot-clear : Beside (old .start) (old .nword) slotNew (d .lind)
@@ -218,7 +218,7 @@ module _ (file : List ℕ) (d : DescriptorNumbers) (addresses : List RecordNumbe
     spread-then = record {
       behind = λ e l m.
           by-last n e (omega (arith, entries-then))
-          (λ o. omega (arith, reclen-same, ap (λ (y : Entered). y .start) (entry-same e l o), entry-behind file d addresses h x (record { 0 = e }) (s .opens e l o)))
+          (λ o. omega (arith, reclen-same, ap (λ (y : Entered). y .start) (entry-same e l o), opened-behind file d addresses (x .admitted) (record { 0 = e }) (s .opens e l o)))
           (λ o. omega (arith, reclen-same, start-last e o, start-low d (x .admitted .settled), first-free (length file) d addresses (x .admitted)));
       areas = λ e k l m p q.
           by-last n e (omega (arith, entries-then))

@@ -1,17 +1,21 @@
 -- That no two regions of admitted numbers share a word comes to two facts of the entries: each stands beside every index area, and beside every other. Assumes nothing.
-use Prim.Native.Nat.{ℕ, _+_, _≤_, _<_}
+use Prim.Native.Nat.{ℕ, _+_, _-_, _≤_, _<_}
 use mathlib.Core.Path.{_≡_, refl, sym, ap}
 use mathlib.Core.Logic.{_⊎_, inl, inr}
 use mathlib.Core.List.{List}
 use native.Mathlib.Omega.{arith}
-use native.Mathlib.Nat.{lt-of-not-le}
+use native.Mathlib.Nat.{lt-of-not-le, mul-le-mul-right}
 use native.Mathlib.Decide.{decLe}
+use lib.ListN.{length}
 use Rattle.geometry.specs.declared.units.RecordNumber.{RecordNumber}
-use Rattle.geometry.specs.Units.{entriesBefore}
+use Rattle.geometry.specs.declared.units.EntryNumber.{EntryNumber}
+use Rattle.geometry.specs.Units.{positionOf, entriesBefore}
 use Rattle.descriptor.specs.declared.numbers.DescriptorNumbers.{DescriptorNumbers}
+use Rattle.descriptor.specs.FirstRecord.{freeOf}
 use Rattle.descriptor.specs.Bounds.{Admitted}
 use Rattle.entry.specs.declared.opening.Entered.{Entered}
-use Rattle.entry.specs.Opening.{enteredOf}
+use Rattle.entry.specs.Opening.{slotPositionOf, placeOf, entryRefusal, enteredOf}
+use Rattle.entry.proofs.Entering.{entry-opens, entered-numbers}
 use Rattle.order.specs.Order.{areaStartOf, areaEndOf, endOf}
 use Rattle.promises.specs.Regions.{Region, firstRecord, area, entry, InUse, fromOf, toOf, NoneShared}
 use Rattle.promises.proofs.Areas.{area-behind, areas-order}
@@ -39,6 +43,18 @@ pub record Spread (file : List ℕ) (d : DescriptorNumbers) (addresses : List Re
       → Clear (entryAt file d addresses e .start) (endOf (entryAt file d addresses e)) (areaStartOf d addresses k) (areaEndOf d addresses k)
   pub entries : (e f : ℕ) → 1 ≤ e → e < f → f ≤ entriesBefore (d .xnext)
       → Clear (entryAt file d addresses e .start) (endOf (entryAt file d addresses e)) (entryAt file d addresses f .start) (endOf (entryAt file d addresses f))
+
+-- an entry that opens stands behind the first record, and ends before the next free position
+module _ (file : List ℕ) (d : DescriptorNumbers) (addresses : List RecordNumber) (a : Admitted (length file) d addresses) (e : EntryNumber) (opens : entryRefusal file d addresses e ≡ 0) where
+  pub opened-behind : d .reclen ≤ enteredOf file d addresses e .start
+  unfolding positionOf
+  opened-behind =
+      let o = entry-opens file d addresses e a opens in
+      let some : 1 ≤ placeOf file (slotPositionOf d addresses e) .«record» .0 - 1 = omega (arith, o .record-low) in
+      omega (arith, ap (λ (y : Entered). y .start) (entered-numbers file d addresses e opens), mul-le-mul-right (d .reclen) some)
+
+  pub opened-free : endOf (enteredOf file d addresses e) ≤ freeOf d
+  opened-free = omega (arith, ap endOf (entered-numbers file d addresses e opens), entry-opens file d addresses e a opens .ends)
 
 -- two numbers that differ, by which is less
 pub by-order {ℓ} : {X : Type ℓ} (a b : ℕ) → (a ≡ b → ⊥) → (a < b → X) → (b < a → X) → X
