@@ -6,14 +6,15 @@ use mathlib.Core.List.{List}
 use native.Mathlib.Omega.{arith}
 use native.Mathlib.Nat.{lt-of-not-le}
 use native.Mathlib.Decide.{decLe}
-use borrow.Author.Tests.{eqb-true, eqb-false, eq-eqb, ne-eqb, lt-ltb, leb-true}
-use lib.Dec.{eqb}
+use borrow.Author.Tests.{eqb-true, eqb-false, eq-eqb, ne-eqb, lt-ltb, leb-true, le-leb, ltb-true}
+use lib.Dec.{eqb, ltb}
 use Rattle.geometry.specs.declared.units.RecordNumber.{RecordNumber}
 use Rattle.geometry.specs.declared.area.Slot.{Slot}
 use Rattle.geometry.specs.Units.{entriesBefore}
 use Rattle.geometry.specs.Growth.{capacityOf}
 use Rattle.geometry.specs.Area.{slotOf}
 use Rattle.descriptor.specs.declared.numbers.DescriptorNumbers.{DescriptorNumbers}
+use Rattle.descriptor.specs.declared.validating.Validated.the-variants.{Numbers}
 use Rattle.descriptor.specs.FirstRecord.{numbersOf, addressesOf, growthIn}
 use Rattle.descriptor.specs.Refusal.{refusalIn}
 use Rattle.descriptor.specs.Rules.{fileRefusal}
@@ -58,6 +59,27 @@ module _ (d : DescriptorNumbers) (addresses : List RecordNumber) (slot : Slot) w
       leb-true end (areaStartOf d addresses (slot .extension .0 + 1))
       (rw (eq-eqb (slot .place) (capacityOf (growthIn d) (slot .extension .0)) p, lt-ltb (slot .extension .0) (d .nex) l) at t)
 
+  -- and back
+  starts-pass : (before start : ℕ) → (slot .place ≡ 1 → areaEndOf d addresses (slot .extension .0) ≤ start) → ((slot .place ≡ 1 → ⊥) → before ≤ start)
+      → startsInOrder d addresses slot before start ≡ true
+  unfolding startsInOrder
+  starts-pass before start f g =
+      either (eqb (slot .place) 1)
+      (λ q. rw q (le-leb (areaEndOf d addresses (slot .extension .0)) start (f (eqb-true (slot .place) 1 q))))
+      (λ q. rw q (le-leb before start (g (eqb-false (slot .place) 1 q))))
+
+  ends-pass : (end : ℕ) → (slot .place ≡ capacityOf (growthIn d) (slot .extension .0) → slot .extension .0 < d .nex → end ≤ areaStartOf d addresses (slot .extension .0 + 1))
+      → endsInOrder d addresses slot end ≡ true
+  unfolding endsInOrder
+  ends-pass end f =
+      let k = slot .extension .0 in
+      let capacity = capacityOf (growthIn d) k in
+      either (eqb (slot .place) capacity)
+      (λ p. either (ltb k (d .nex))
+      (λ q. rw (p, q) (le-leb end (areaStartOf d addresses (k + 1)) (f (eqb-true (slot .place) capacity p) (ltb-true k (d .nex) q))))
+      (λ q. rw (p, q)))
+      (λ p. rw p)
+
 -- ---- one entry
 
 -- a refusal that comes second
@@ -82,6 +104,16 @@ module _ (file : List ℕ) (d : DescriptorNumbers) (addresses : List RecordNumbe
         last = ends-last d addresses (slotAt d e) (endOf (entryAt file d addresses e)) (rows .1 .0);
       }
 
+  -- and back: an entry of which these hold is passed
+  pub passes : (e : ℕ) → Passed file d addresses e → orderRefusal file d addresses (record { 0 = e }) ≡ 0
+  unfolding orderRefusal
+  passes e p =
+      let slot = slotAt d e in
+      let opening = entered-refusal file d addresses (record { 0 = e }) ∙ p .opens in
+      let starts = starts-pass d addresses slot (endOf (entryAt file d addresses (e - 1))) (entryAt file d addresses e .start) (p .first) (p .next) in
+      let ends = ends-pass d addresses slot (endOf (entryAt file d addresses e)) (p .last) in
+      rw (opening, starts, ends)
+
   -- ---- the scan
 
   scan-step : (n k : ℕ) (later : Checked) → cond (eqb n 0) later (record { entry = record { 0 = k }; refusal = n }) ≡ allPass → (n ≡ 0) × (later ≡ allPass)
@@ -99,6 +131,17 @@ module _ (file : List ℕ) (d : DescriptorNumbers) (addresses : List RecordNumbe
         | yes m ↦ (let same : e ≡ k = omega arith in ap (λ (j : ℕ). orderRefusal file d addresses (record { 0 = j })) same ∙ both .0)
         | no m ↦ (let more = lt-of-not-le m in scan-all (k + 1) left (both .1) e (omega arith) (omega arith))
       ]
+
+  scan-pass : (k left : ℕ) → ((e : ℕ) → k ≤ e → e < k + left → orderRefusal file d addresses (record { 0 = e }) ≡ 0) → checkedFrom file d addresses k left ≡ allPass
+  unfolding checkedFrom
+  scan-pass k zero all = refl
+  scan-pass k (suc left) all = rw (all k (omega arith) (omega arith)) (scan-pass (k + 1) left (λ e l h. all e (omega arith) (omega arith)))
+
+  -- a file with these numbers, of all of whose entries these hold, passes the check
+  pub check-passes : validationOf file ≡ record { refusal = 0; numbers = Numbers d; addresses = addresses }
+      → ((e : ℕ) → 1 ≤ e → e ≤ entriesBefore (d .xnext) → Passed file d addresses e) → checkOf file ≡ allPass
+  unfolding checkOf checkedIn
+  check-passes v all = rw v (scan-pass 1 (entriesBefore (d .xnext)) (λ e l h. passes e (all e l (omega arith))))
 
 -- a file that passes the check is admitted, and so is each of its entries
 pub check-passed : (file : List ℕ) → checkOf file ≡ allPass

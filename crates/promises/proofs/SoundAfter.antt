@@ -38,7 +38,7 @@ use Rattle.promises.proofs.Spread.{Clear, clear-by, entryAt, Spread, op
 use Rattle.promises.proofs.EntriesStay.{agrees}
 
 -- a number up to n + 1 is one up to n, or the last
-by-last {ℓ} : {X : Type ℓ} (n k : ℕ) → k ≤ n + 1 → (k ≤ n → X) → (k ≡ n + 1 → X) → X
+pub by-last {ℓ} : {X : Type ℓ} (n k : ℕ) → k ≤ n + 1 → (k ≤ n → X) → (k ≡ n + 1 → X) → X
 by-last n k h f g = elim (decLe k n) [ yes l ↦ f l | no l ↦ let m = lt-of-not-le l in g (omega arith) ]
 
 module _ (file : List ℕ) (d : DescriptorNumbers) (addresses : List RecordNumber) (h : Handed) (x : Accepted (length file) d addresses h) (s : SoundIn file d addresses) where
@@ -57,14 +57,14 @@ module _ (file : List ℕ) (d : DescriptorNumbers) (addresses : List RecordNumbe
   abbrev n : ℕ
   n = entriesBefore (d .xnext)
 
-  entries-then : entriesBefore (then .xnext) ≡ n + 1
+  pub entries-then : entriesBefore (then .xnext) ≡ n + 1
   entries-then = omega (arith, number-last (length file) d addresses h x, x .admitted .counted)
 
   reclen-same : then .reclen ≡ d .reclen
   unfolding numbersAfter
   reclen-same = refl
 
-  nex-then : then .nex ≡ nexAfter d
+  pub nex-then : then .nex ≡ nexAfter d
   unfolding numbersAfter
   nex-then = refl
 
@@ -93,7 +93,7 @@ module _ (file : List ℕ) (d : DescriptorNumbers) (addresses : List RecordNumbe
       omega (arith, e, new-low d (x .admitted .settled))
 
   -- an area in use after the append is one that was, or the new one
-  by-area {ℓ} : {X : Type ℓ} (k : ℕ) → k ≤ then .nex → (k ≤ d .nex → X) → (full d ≡ true → k ≡ d .nex + 1 → X) → X
+  pub by-area {ℓ} : {X : Type ℓ} (k : ℕ) → k ≤ then .nex → (k ≤ d .nex → X) → (full d ≡ true → k ≡ d .nex + 1 → X) → X
   by-area k m f g =
       either (full d)
       (λ q. by-last (d .nex) k (omega (arith, nex-then, nex-full d q)) f (g q))
@@ -194,10 +194,10 @@ module _ (file : List ℕ) (d : DescriptorNumbers) (addresses : List RecordNumbe
 
     -- ---- all regions
 
-    start-last : (e : ℕ) → e ≡ n + 1 → entryAt new then areasThen e .start ≡ entryStart d
+    pub start-last : (e : ℕ) → e ≡ n + 1 → entryAt new then areasThen e .start ≡ entryStart d
     start-last e o = ap (λ (j : ℕ). entryAt new then areasThen j .start) o ∙ start-new
 
-    old-end : (e : ℕ) → 1 ≤ e → e ≤ n → endOf (entryAt new then areasThen e) ≤ freeOf d
+    pub old-end : (e : ℕ) → 1 ≤ e → e ≤ n → endOf (entryAt new then areasThen e) ≤ freeOf d
     old-end e l o = omega (arith, ap endOf (entry-same e l o), ends e l o)
 
     old-area : (e k : ℕ) → 1 ≤ e → e ≤ n → 1 ≤ k → k ≤ then .nex
@@ -230,7 +230,7 @@ module _ (file : List ℕ) (d : DescriptorNumbers) (addresses : List RecordNumbe
           (λ p. inl (omega (arith, old-end e l (omega arith), start-last f p, start-low d (x .admitted .settled))));
     }
 
-    opens-then : (e : ℕ) → 1 ≤ e → e ≤ entriesBefore (then .xnext) → entryRefusal new then areasThen (record { 0 = e }) ≡ 0
+    pub opens-then : (e : ℕ) → 1 ≤ e → e ≤ entriesBefore (then .xnext) → entryRefusal new then areasThen (record { 0 = e }) ≡ 0
     opens-then e l m =
         by-last n e (omega (arith, entries-then))
         (λ o. opens-there file new d then addresses areasThen (record { 0 = e }) (entry-agrees e l o))
