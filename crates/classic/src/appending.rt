@@ -1,7 +1,7 @@
 // Appending an entry, for C.
 use super::answers::ClassicAppended;
 use writer::append;
-ghost use mathlib.Core.Path.{_≡_};
+ghost use Rattle.outcome.specs.Outcome.{AnswersAndLeaves};
 ghost use Rattle.writer.specs.Handed.{handedIn};
 ghost use Rattle.writer.specs.Answers.{appendOf, fileAfter};
 ghost use Rattle.classic.specs.Answers.{appendedFor};
@@ -18,8 +18,7 @@ pub extern "C" fn classic_append(
     sections: &[u8],
     values: &[u8],
 ) -> ClassicAppended
-    ensures answer { λ r. ⌜ r ≡ appendedFor (appendOf (now (file .entry)) (handedIn version (now (index .entry)) (now (ids .entry)) (now (lengths .entry)) (now (sections .entry)) (now (values .entry)))) ⌝ }
-    ensures bytes { λ r. ⌜ now (file .exit) ≡ fileAfter (now (file .entry)) (handedIn version (now (index .entry)) (now (ids .entry)) (now (lengths .entry)) (now (sections .entry)) (now (values .entry))) ⌝ }
+    ensures { λ r. ⌜ AnswersAndLeaves (appendedFor (appendOf (now (file .entry)) (handedIn version (now (index .entry)) (now (ids .entry)) (now (lengths .entry)) (now (sections .entry)) (now (values .entry))))) (fileAfter (now (file .entry)) (handedIn version (now (index .entry)) (now (ids .entry)) (now (lengths .entry)) (now (sections .entry)) (now (values .entry)))) r (now (file .exit)) ⌝ }
 {
     let appended = append(file, version, index, ids, lengths, sections, values);
     ClassicAppended {

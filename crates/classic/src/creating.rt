@@ -2,16 +2,13 @@
 use super::answers::ClassicSettings;
 use descriptor::Settings;
 use writer::create;
-ghost use mathlib.Core.Path.{_≡_};
-ghost use lib.ListN.{length};
-ghost use Rattle.writer.specs.Creation.{creationRefusal, createdFile};
+ghost use Rattle.writer.specs.Creation.{Creates};
 ghost use Rattle.classic.specs.Answers.{settingsFrom};
 
 // Writes the first record of a file with no entries. Answers 0, or the refusal.
 #[no_mangle]
 pub extern "C" fn classic_create(file: &mut [u8], settings: ClassicSettings) -> u32
-    ensures answer { λ r. ⌜ r ≡ creationRefusal (length (now (file .entry))) (settingsFrom settings) ⌝ }
-    ensures bytes { λ r. ⌜ now (file .exit) ≡ createdFile (now (file .entry)) (settingsFrom settings) ⌝ }
+    ensures { λ r. ⌜ Creates (now (file .entry)) (settingsFrom settings) r (now (file .exit)) ⌝ }
 {
     let chosen = Settings {
         reclen: settings.reclen,

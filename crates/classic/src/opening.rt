@@ -4,13 +4,13 @@ use super::tables::entry_addresses;
 use entry::Open;
 use entry::open_entry;
 use geometry::EntryNumber;
-ghost use mathlib.Core.Path.{_≡_};
+ghost use Rattle.outcome.specs.Outcome.{Answers};
 ghost use Rattle.entry.specs.Answers.{openOf, numberOf};
 ghost use Rattle.classic.specs.Answers.{entryFor, noEntry};
 
 // The refusal of an open, 0 for numbers.
 fn refusal_of(answer: Open) -> u32
-    ensures { λ r. ⌜ r ≡ numberOf answer ⌝ }
+    ensures { λ r. ⌜ Answers (numberOf answer) r ⌝ }
 {
     match answer {
         Open::Numbers(_, _, _, _, _) => 0,
@@ -20,7 +20,7 @@ fn refusal_of(answer: Open) -> u32
 
 // An entry with a refusal.
 fn refused(refusal: u32) -> ClassicEntry
-    ensures { λ r. ⌜ r ≡ noEntry refusal ⌝ }
+    ensures { λ r. ⌜ Answers (noEntry refusal) r ⌝ }
 {
     ClassicEntry {
         refusal,
@@ -40,7 +40,7 @@ fn refused(refusal: u32) -> ClassicEntry
 // An entry by its number, or the refusal.
 #[no_mangle]
 pub extern "C" fn classic_open(file: &[u8], entry: u64) -> ClassicEntry
-    ensures { λ r. ⌜ r ≡ entryFor (openOf (now (file .entry)) (record { 0 = entry })) ⌝ }
+    ensures { λ r. ⌜ Answers (entryFor (openOf (now (file .entry)) (record { 0 = entry }))) r ⌝ }
 {
     let opened = open_entry(file, EntryNumber(entry));
     let answer = opened.answer;

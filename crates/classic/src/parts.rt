@@ -5,15 +5,15 @@ use entry::data_array_place;
 use entry::index_words_place;
 use entry::section_place;
 use geometry::EntryNumber;
-ghost use mathlib.Core.Path.{_≡_};
 ghost use Prim.Native.Nat.{_≤_};
+ghost use Rattle.outcome.specs.Outcome.{Answers};
 ghost use Rattle.entry.specs.Answers.{indexWordsOf, sectionWordsOf, dataWordsOf};
 ghost use Rattle.classic.specs.Answers.{partFor};
 
 // A part by its start and length.
 fn part_at(place: PartPlace) -> ClassicPart
     requires { ⌜ place .start ≤ place .end ⌝ }
-    ensures { λ r. ⌜ r ≡ partFor place ⌝ }
+    ensures { λ r. ⌜ Answers (partFor place) r ⌝ }
 {
     ClassicPart {
         refusal: place.refusal,
@@ -25,7 +25,7 @@ fn part_at(place: PartPlace) -> ClassicPart
 // The application's words of an entry's index, or the refusal.
 #[no_mangle]
 pub extern "C" fn classic_index_words(file: &[u8], entry: u64) -> ClassicPart
-    ensures { λ r. ⌜ r ≡ partFor (indexWordsOf (now (file .entry)) (record { 0 = entry })) ⌝ }
+    ensures { λ r. ⌜ Answers (partFor (indexWordsOf (now (file .entry)) (record { 0 = entry }))) r ⌝ }
 {
     part_at(index_words_place(file, EntryNumber(entry)))
 }
@@ -33,7 +33,7 @@ pub extern "C" fn classic_index_words(file: &[u8], entry: u64) -> ClassicPart
 // The first section of an entry that has the identifier, or the refusal.
 #[no_mangle]
 pub extern "C" fn classic_section(file: &[u8], entry: u64, identifier: i32) -> ClassicPart
-    ensures { λ r. ⌜ r ≡ partFor (sectionWordsOf (now (file .entry)) (record { 0 = entry }) identifier) ⌝ }
+    ensures { λ r. ⌜ Answers (partFor (sectionWordsOf (now (file .entry)) (record { 0 = entry }) identifier)) r ⌝ }
 {
     part_at(section_place(file, EntryNumber(entry), identifier))
 }
@@ -41,7 +41,7 @@ pub extern "C" fn classic_section(file: &[u8], entry: u64, identifier: i32) -> C
 // The data of an entry, or the refusal.
 #[no_mangle]
 pub extern "C" fn classic_data(file: &[u8], entry: u64) -> ClassicPart
-    ensures { λ r. ⌜ r ≡ partFor (dataWordsOf (now (file .entry)) (record { 0 = entry })) ⌝ }
+    ensures { λ r. ⌜ Answers (partFor (dataWordsOf (now (file .entry)) (record { 0 = entry }))) r ⌝ }
 {
     part_at(data_array_place(file, EntryNumber(entry)))
 }

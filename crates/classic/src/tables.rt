@@ -1,12 +1,12 @@
 // Tables of records and of addresses as tables of plain numbers.
 use geometry::EntryAddress;
 use geometry::RecordNumber;
-ghost use mathlib.Core.Path.{_≡_};
+ghost use Rattle.outcome.specs.Outcome.{Answers};
 ghost use Rattle.classic.specs.Answers.{recordNumbers, entryAddresses};
 
 // The numbers of 16 records.
 pub(crate) fn record_numbers(table: [RecordNumber; 16]) -> [u64; 16]
-    ensures { λ r. ⌜ r ≡ recordNumbers table ⌝ }
+    ensures { λ r. ⌜ Answers (recordNumbers table) r ⌝ }
 {
     let mut numbers = [0u64; 16];
     let mut filled = 0;
@@ -20,7 +20,7 @@ pub(crate) fn record_numbers(table: [RecordNumber; 16]) -> [u64; 16]
 
 // The numbers of 64 addresses of an entry.
 pub(crate) fn entry_addresses(table: [EntryAddress; 64]) -> [u64; 64]
-    ensures { λ r. ⌜ r ≡ entryAddresses table ⌝ }
+    ensures { λ r. ⌜ Answers (entryAddresses table) r ⌝ }
 {
     let mut numbers = [0u64; 64];
     let mut filled = 0;

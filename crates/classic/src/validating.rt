@@ -7,13 +7,13 @@ use descriptor::extension_of;
 use descriptor::refusal_of;
 use descriptor::validate;
 use geometry::ExtensionNumber;
-ghost use mathlib.Core.Path.{_≡_};
+ghost use Rattle.outcome.specs.Outcome.{Answers};
 ghost use Rattle.descriptor.specs.Answers.{validationOf, extensionOf};
 ghost use Rattle.classic.specs.Answers.{descriptorFor, extensionFor, noDescriptor};
 
 // A descriptor with a refusal.
 fn refused(refusal: u32) -> ClassicDescriptor
-    ensures { λ r. ⌜ r ≡ noDescriptor refusal ⌝ }
+    ensures { λ r. ⌜ Answers (noDescriptor refusal) r ⌝ }
 {
     ClassicDescriptor {
         refusal,
@@ -35,7 +35,7 @@ fn refused(refusal: u32) -> ClassicDescriptor
 // The file's descriptor, or the refusal.
 #[no_mangle]
 pub extern "C" fn classic_validate(file: &[u8]) -> ClassicDescriptor
-    ensures { λ r. ⌜ r ≡ descriptorFor (validationOf (now (file .entry))) ⌝ }
+    ensures { λ r. ⌜ Answers (descriptorFor (validationOf (now (file .entry)))) r ⌝ }
 {
     let validation = validate(file);
     let case = validation.numbers;
@@ -63,7 +63,7 @@ pub extern "C" fn classic_validate(file: &[u8]) -> ClassicDescriptor
 // An extension by its number, or the refusal.
 #[no_mangle]
 pub extern "C" fn classic_extension_of(file: &[u8], number: u64) -> ClassicExtension
-    ensures { λ r. ⌜ r ≡ extensionFor (extensionOf (now (file .entry)) (record { 0 = number })) ⌝ }
+    ensures { λ r. ⌜ Answers (extensionFor (extensionOf (now (file .entry)) (record { 0 = number }))) r ⌝ }
 {
     let extension = extension_of(file, ExtensionNumber(number));
     ClassicExtension {

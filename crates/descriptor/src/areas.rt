@@ -13,6 +13,7 @@ use geometry::position_within;
 ghost use mathlib.Core.Path.{_≡_};
 ghost use mathlib.Core.Bool.{true};
 ghost use Prim.Native.Nat.{_^_, _<_};
+ghost use Rattle.outcome.specs.Outcome.{Answers};
 ghost use Rattle.descriptor.specs.FirstRecord.{freeOf};
 ghost use Rattle.descriptor.specs.Rules.{areasStart, areasEnd};
 ghost use Rattle.descriptor.specs.Bounds.{Settled, Free};
@@ -20,7 +21,7 @@ ghost use Rattle.descriptor.specs.Bounds.{Settled, Free};
 // Whether the areas start at record 2 or later, each at or after the end of the one before.
 pub(crate) fn areas_start(d: DescriptorNumbers, addresses: [RecordNumber; 16]) -> bool
     requires { ⌜ Settled d ⌝ }
-    ensures { λ r. ⌜ r ≡ areasStart d addresses (d .nex) ⌝ }
+    ensures { λ r. ⌜ Answers (areasStart d addresses (d .nex)) r ⌝ }
 {
     let growth = Growth::new(d.lex1, d.gex);
     let mut after = 2;
@@ -40,7 +41,7 @@ pub(crate) fn areas_start(d: DescriptorNumbers, addresses: [RecordNumber; 16]) -
 // Whether the last area ends at or before the next free position.
 pub(crate) fn areas_end(d: DescriptorNumbers, addresses: [RecordNumber; 16]) -> bool
     requires { ⌜ Settled d × Free d × (freeOf d < 2 ^ 32) × (areasStart d addresses (d .nex) ≡ true) ⌝ }
-    ensures { λ r. ⌜ r ≡ areasEnd d addresses ⌝ }
+    ensures { λ r. ⌜ Answers (areasEnd d addresses) r ⌝ }
 {
     let after = RecordNumber(area_after(d, addresses, d.nex));
     position_within(d.reclen, after, WordNumber(1), free_position(d))

@@ -8,7 +8,7 @@ use geometry::Growth;
 use geometry::RecordNumber;
 use geometry::area_records;
 use geometry::capacity;
-ghost use mathlib.Core.Path.{_≡_};
+ghost use Rattle.outcome.specs.Outcome.{Answers};
 ghost use Rattle.descriptor.specs.Answers.{extensionOf, noExtension};
 
 // The answer of `extension_of`: the refusal, 0 when there is such an extension; how many entries it
@@ -22,7 +22,7 @@ pub struct Extension {
 
 // An extension with a refusal.
 fn refused(refusal: u32) -> Extension
-    ensures { λ r. ⌜ r ≡ noExtension refusal ⌝ }
+    ensures { λ r. ⌜ Answers (noExtension refusal) r ⌝ }
 {
     Extension {
         refusal,
@@ -34,7 +34,7 @@ fn refused(refusal: u32) -> Extension
 
 // An extension of a file by its number, or the refusal: 1 to 11, then 12.
 pub fn extension_of(file: &[u8], number: ExtensionNumber) -> Extension
-    ensures { λ r. ⌜ r ≡ extensionOf (now (file .entry)) number ⌝ }
+    ensures { λ r. ⌜ Answers (extensionOf (now (file .entry)) number) r ⌝ }
 {
     let validation = validate(file);
     let case = validation.numbers;

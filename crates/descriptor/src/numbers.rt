@@ -4,9 +4,9 @@ use geometry::ExtensionNumber;
 use geometry::RecordNumber;
 use geometry::WordNumber;
 use geometry::first_record_offset;
-ghost use mathlib.Core.Path.{_≡_};
 ghost use Prim.Native.Nat.{_+_, _*_, _≤_, _<_};
 ghost use lib.ListN.{length};
+ghost use Rattle.outcome.specs.Outcome.{Answers};
 ghost use Rattle.descriptor.specs.FirstRecord.{field4, field8, numbersOf, createdOf, addressesOf};
 
 // What a caller chooses for a new file.
@@ -49,7 +49,7 @@ impl DescriptorNumbers {
 
     // The numbers of a new file with these settings.
     pub fn new(settings: Settings) -> DescriptorNumbers
-        ensures { λ r. ⌜ r ≡ createdOf settings ⌝ }
+        ensures { λ r. ⌜ Answers (createdOf settings) r ⌝ }
     {
         DescriptorNumbers {
             reclen: words::bits32(settings.reclen) as u64,
@@ -70,7 +70,7 @@ impl DescriptorNumbers {
 // The bits of the Integer*4 at a word of the first record.
 fn field4_at(file: &[u8], word: u64) -> u64
     requires { ⌜ (1 ≤ word) × (word ≤ 4096) × (4 * word ≤ length (now file)) ⌝ }
-    ensures { λ r. ⌜ r ≡ field4 (now (file .entry)) word ⌝ }
+    ensures { λ r. ⌜ Answers (field4 (now (file .entry)) word) r ⌝ }
 {
     words::u32_at(file, first_record_offset(WordNumber(word))) as u64
 }
@@ -78,7 +78,7 @@ fn field4_at(file: &[u8], word: u64) -> u64
 // The bits of the Integer*8 at a word of the first record and the next.
 fn field8_at(file: &[u8], word: u64) -> u64
     requires { ⌜ (1 ≤ word) × (word ≤ 4096) × (4 * (word + 1) ≤ length (now file)) ⌝ }
-    ensures { λ r. ⌜ r ≡ field8 (now (file .entry)) word ⌝ }
+    ensures { λ r. ⌜ Answers (field8 (now (file .entry)) word) r ⌝ }
 {
     words::u64_at(file, first_record_offset(WordNumber(word)))
 }
@@ -86,7 +86,7 @@ fn field8_at(file: &[u8], word: u64) -> u64
 // The numbers as stored in a file.
 pub(crate) fn numbers_of(file: &[u8]) -> DescriptorNumbers
     requires { ⌜ 64 ≤ length (now file) ⌝ }
-    ensures { λ r. ⌜ r ≡ numbersOf (now (file .entry)) ⌝ }
+    ensures { λ r. ⌜ Answers (numbersOf (now (file .entry))) r ⌝ }
 {
     DescriptorNumbers {
         reclen: field4_at(file, 2),
@@ -106,7 +106,7 @@ pub(crate) fn numbers_of(file: &[u8]) -> DescriptorNumbers
 // The addresses of the first `nex` extensions, in 16 places, the others zero.
 pub(crate) fn addresses_of(file: &[u8], nex: u64) -> [RecordNumber; 16]
     requires { ⌜ (nex ≤ 16) × (4 * (14 + 2 * nex) ≤ length (now file)) ⌝ }
-    ensures { λ r. ⌜ r ≡ addressesOf (now (file .entry)) nex ⌝ }
+    ensures { λ r. ⌜ Answers (addressesOf (now (file .entry)) nex) r ⌝ }
 {
     let mut table = [RecordNumber(0); 16];
     let mut filled = 0;

@@ -11,9 +11,9 @@ use geometry::entries_before;
 use geometry::first_record_offset;
 use geometry::position_within;
 use geometry::total;
-ghost use mathlib.Core.Path.{_≡_};
 ghost use Prim.Native.Nat.{_≤_};
 ghost use lib.ListN.{length};
+ghost use Rattle.outcome.specs.Outcome.{Answers};
 ghost use Rattle.words.specs.Code.{sameBytes};
 ghost use Rattle.geometry.specs.Growth.{Growing};
 ghost use Rattle.descriptor.specs.FirstRecord.{codeOf, fileCode};
@@ -23,7 +23,7 @@ ghost use Rattle.descriptor.specs.Bounds.{Settled, Lent};
 // Whether the file begins with the code.
 pub(crate) fn code_holds(file: &[u8]) -> bool
     requires { ⌜ 64 ≤ length (now file) ⌝ }
-    ensures { λ r. ⌜ r ≡ sameBytes (codeOf (now (file .entry))) fileCode ⌝ }
+    ensures { λ r. ⌜ Answers (sameBytes (codeOf (now (file .entry))) fileCode) r ⌝ }
 {
     words::code_at(
         file,
@@ -37,7 +37,7 @@ pub(crate) fn code_holds(file: &[u8]) -> bool
 
 // Rules 3 to 8, on the numbers and the count of bytes lent: the first that is broken, or 0.
 pub fn setting_refusal(bytes: u64, d: DescriptorNumbers) -> u32
-    ensures { λ r. ⌜ r ≡ settingRefusal bytes d ⌝ }
+    ensures { λ r. ⌜ Answers (settingRefusal bytes d) r ⌝ }
 {
     if !words::within4(
         d.reclen,
@@ -86,7 +86,7 @@ pub fn setting_refusal(bytes: u64, d: DescriptorNumbers) -> u32
 // Whether n entries fit nex extensions.
 fn entries_fit(growth: Growth, nex: u64, n: u64) -> bool
     requires { ⌜ (nex ≤ 16) × Growing growth nex ⌝ }
-    ensures { λ r. ⌜ r ≡ entriesFit growth nex n ⌝ }
+    ensures { λ r. ⌜ Answers (entriesFit growth nex n) r ⌝ }
 {
     if nex == 0 {
         return n == 0;
@@ -105,7 +105,7 @@ pub(crate) fn filling_refusal(
     addresses: [RecordNumber; 16],
 ) -> u32
     requires { ⌜ Settled d × Lent bytes d ⌝ }
-    ensures { λ r. ⌜ r ≡ fillingRefusal bytes d addresses ⌝ }
+    ensures { λ r. ⌜ Answers (fillingRefusal bytes d addresses) r ⌝ }
 {
     if !words::at_least8(d.xnext.0, 1) {
         return 9;

@@ -6,7 +6,7 @@ use super::rules::code_holds;
 use super::rules::filling_refusal;
 use super::rules::setting_refusal;
 use geometry::RecordNumber;
-ghost use mathlib.Core.Path.{_≡_};
+ghost use Rattle.outcome.specs.Outcome.{Answers};
 ghost use Rattle.descriptor.specs.Answers.{validationOf, noValidation, numberOf};
 
 // The case of a validation: the numbers of an admitted file, or the refusal.
@@ -25,7 +25,7 @@ pub struct Validation {
 
 // A validation with a refusal.
 fn refused(refusal: u32) -> Validation
-    ensures { λ r. ⌜ r ≡ noValidation refusal ⌝ }
+    ensures { λ r. ⌜ Answers (noValidation refusal) r ⌝ }
 {
     Validation {
         refusal,
@@ -36,7 +36,7 @@ fn refused(refusal: u32) -> Validation
 
 // The descriptor's numbers and addresses, or the first rule of 1 to 11 that the file breaks.
 pub fn validate(file: &[u8]) -> Validation
-    ensures { λ r. ⌜ r ≡ validationOf (now (file .entry)) ⌝ }
+    ensures { λ r. ⌜ Answers (validationOf (now (file .entry))) r ⌝ }
 {
     let bytes = file.len() as u64;
     if bytes < 64 {
@@ -64,7 +64,7 @@ pub fn validate(file: &[u8]) -> Validation
 
 // The refusal of a case, 0 for numbers.
 pub fn refusal_of(case: Validated) -> u32
-    ensures { λ r. ⌜ r ≡ numberOf case ⌝ }
+    ensures { λ r. ⌜ Answers (numberOf case) r ⌝ }
 {
     match case {
         Validated::Numbers(_) => 0,

@@ -8,7 +8,7 @@ use descriptor::validate;
 use geometry::EntryAddress;
 use geometry::EntryNumber;
 use geometry::Place;
-ghost use mathlib.Core.Path.{_≡_};
+ghost use Rattle.outcome.specs.Outcome.{Answers};
 ghost use Rattle.entry.specs.Answers.{openOf, noSections};
 
 // The address of an entry's data as stored: the EntryAddress of its first word where there is data,
@@ -42,7 +42,7 @@ pub struct PartPlace {
 
 // Tables with nothing in them.
 fn no_sections() -> Sections
-    ensures { λ r. ⌜ r ≡ noSections ⌝ }
+    ensures { λ r. ⌜ Answers noSections r ⌝ }
 {
     Sections {
         identifiers: [0i32; 64],
@@ -53,7 +53,7 @@ fn no_sections() -> Sections
 
 // Opens an entry by its number: its numbers and tables, or the first rule of 1 to 19 that is broken.
 pub fn open_entry(file: &[u8], number: EntryNumber) -> Opened
-    ensures { λ r. ⌜ r ≡ openOf (now (file .entry)) number ⌝ }
+    ensures { λ r. ⌜ Answers (openOf (now (file .entry)) number) r ⌝ }
 {
     let validation = validate(file);
     let case = validation.numbers;

@@ -9,6 +9,7 @@ ghost use mathlib.Core.Path.{_≡_};
 ghost use mathlib.Core.Bool.{true};
 ghost use Prim.Native.Nat.{_+_, _*_, _^_, _≤_, _<_};
 ghost use lib.ListN.{length};
+ghost use Rattle.outcome.specs.Outcome.{Answers};
 ghost use Rattle.entry.specs.EntryDescriptor.{word4, word8, sectionOf};
 ghost use Rattle.entry.specs.Contents.{pieceWithin, dataWithin, sectionsWithin, apart, apartFrom, sectionsApart, dataApart};
 ghost use Rattle.entry.specs.Bounds.{Described, Small};
@@ -22,7 +23,7 @@ pub struct Piece {
 // The bits of the Integer*4 at a word of the entry.
 pub(crate) fn word4_at(file: &[u8], start: u64, address: u64) -> u64
     requires { ⌜ (1 ≤ address) × (4 * (start + address) ≤ length (now file)) ⌝ }
-    ensures { λ r. ⌜ r ≡ word4 (now (file .entry)) start address ⌝ }
+    ensures { λ r. ⌜ Answers (word4 (now (file .entry)) start address) r ⌝ }
 {
     words::u32_at(
         file,
@@ -33,7 +34,7 @@ pub(crate) fn word4_at(file: &[u8], start: u64, address: u64) -> u64
 // The bits of the Integer*8 at a word of the entry and the next.
 pub(crate) fn word8_at(file: &[u8], start: u64, address: u64) -> u64
     requires { ⌜ (1 ≤ address) × (4 * (start + address + 1) ≤ length (now file)) ⌝ }
-    ensures { λ r. ⌜ r ≡ word8 (now (file .entry)) start address ⌝ }
+    ensures { λ r. ⌜ Answers (word8 (now (file .entry)) start address) r ⌝ }
 {
     words::u64_at(
         file,
@@ -44,7 +45,7 @@ pub(crate) fn word8_at(file: &[u8], start: u64, address: u64) -> u64
 // Section `i`, counted from 0.
 pub(crate) fn section_at(file: &[u8], start: u64, nsec: u64, i: u64) -> Piece
     requires { ⌜ Described (length (now file)) start nsec × (i < nsec) ⌝ }
-    ensures { λ r. ⌜ r ≡ sectionOf (now (file .entry)) start nsec i ⌝ }
+    ensures { λ r. ⌜ Answers (sectionOf (now (file .entry)) start nsec i) r ⌝ }
 {
     Piece {
         address: EntryAddress(word8_at(file, start, 12 + 3 * nsec + 2 * i)),
@@ -55,7 +56,7 @@ pub(crate) fn section_at(file: &[u8], start: u64, nsec: u64, i: u64) -> Piece
 // Whether a piece lies within the words that content may have.
 pub(crate) fn piece_within(nsec: u64, nword: u64, piece: Piece) -> bool
     requires { ⌜ (nsec ≤ 64) × (nword < 2 ^ 32) × (piece .words < 2 ^ 63) ⌝ }
-    ensures { λ r. ⌜ r ≡ pieceWithin nsec nword piece ⌝ }
+    ensures { λ r. ⌜ Answers (pieceWithin nsec nword piece) r ⌝ }
 {
     if !words::at_least8(piece.address.0, 12 + 5 * nsec) {
         return false;
@@ -66,7 +67,7 @@ pub(crate) fn piece_within(nsec: u64, nword: u64, piece: Piece) -> bool
 // The same of the data, where there is any.
 pub(crate) fn data_within(nsec: u64, nword: u64, piece: Piece) -> bool
     requires { ⌜ (nsec ≤ 64) × (nword < 2 ^ 32) × (piece .words < 2 ^ 63) ⌝ }
-    ensures { λ r. ⌜ r ≡ dataWithin nsec nword piece ⌝ }
+    ensures { λ r. ⌜ Answers (dataWithin nsec nword piece) r ⌝ }
 {
     if piece.words == 0 {
         return true;
@@ -77,7 +78,7 @@ pub(crate) fn data_within(nsec: u64, nword: u64, piece: Piece) -> bool
 // Whether each section has a word at least and lies within the words that content may have.
 pub(crate) fn sections_within(file: &[u8], start: u64, nsec: u64, nword: u64) -> bool
     requires { ⌜ Described (length (now file)) start nsec × (nword < 2 ^ 32) ⌝ }
-    ensures { λ r. ⌜ r ≡ sectionsWithin (now (file .entry)) start nsec nword nsec ⌝ }
+    ensures { λ r. ⌜ Answers (sectionsWithin (now (file .entry)) start nsec nword nsec) r ⌝ }
 {
     let mut passed = 0;
     while passed < nsec {
@@ -96,7 +97,7 @@ pub(crate) fn sections_within(file: &[u8], start: u64, nsec: u64, nword: u64) ->
 // Whether two pieces share no word.
 pub(crate) fn pieces_apart(first: Piece, second: Piece) -> bool
     requires { ⌜ Small first × Small second ⌝ }
-    ensures { λ r. ⌜ r ≡ apart first second ⌝ }
+    ensures { λ r. ⌜ Answers (apart first second) r ⌝ }
 {
     if first.address.0 + first.words <= second.address.0 {
         return true;
@@ -114,7 +115,7 @@ pub(crate) fn apart_from(
     count: u64,
 ) -> bool
     requires { ⌜ Described (length (now file)) start nsec × (nword < 2 ^ 32) × (sectionsWithin (now file) start nsec nword nsec ≡ true) × Small piece × (count ≤ nsec) ⌝ }
-    ensures { λ r. ⌜ r ≡ apartFrom (now (file .entry)) start nsec piece count ⌝ }
+    ensures { λ r. ⌜ Answers (apartFrom (now (file .entry)) start nsec piece count) r ⌝ }
 {
     let mut passed = 0;
     while passed < count {
@@ -130,7 +131,7 @@ pub(crate) fn apart_from(
 // Whether no two sections share a word.
 pub(crate) fn sections_apart(file: &[u8], start: u64, nsec: u64, nword: u64) -> bool
     requires { ⌜ Described (length (now file)) start nsec × (nword < 2 ^ 32) × (sectionsWithin (now file) start nsec nword nsec ≡ true) ⌝ }
-    ensures { λ r. ⌜ r ≡ sectionsApart (now (file .entry)) start nsec nsec ⌝ }
+    ensures { λ r. ⌜ Answers (sectionsApart (now (file .entry)) start nsec nsec) r ⌝ }
 {
     let mut passed = 0;
     while passed < nsec {
@@ -146,7 +147,7 @@ pub(crate) fn sections_apart(file: &[u8], start: u64, nsec: u64, nword: u64) -> 
 // Whether the data, where there is any, shares no word with a section.
 pub(crate) fn data_apart(file: &[u8], start: u64, nsec: u64, nword: u64, piece: Piece) -> bool
     requires { ⌜ Described (length (now file)) start nsec × (nword < 2 ^ 32) × (sectionsWithin (now file) start nsec nword nsec ≡ true) × (dataWithin nsec nword piece ≡ true) ⌝ }
-    ensures { λ r. ⌜ r ≡ dataApart (now (file .entry)) start nsec piece ⌝ }
+    ensures { λ r. ⌜ Answers (dataApart (now (file .entry)) start nsec piece) r ⌝ }
 {
     if piece.words == 0 {
         return true;

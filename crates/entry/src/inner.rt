@@ -23,9 +23,9 @@ use geometry::entries_before;
 use geometry::entry_position;
 use geometry::position;
 use geometry::slot_of;
-ghost use mathlib.Core.Path.{_≡_};
 ghost use Prim.Native.Nat.{_+_, _^_, _≤_, _<_};
 ghost use lib.ListN.{length};
+ghost use Rattle.outcome.specs.Outcome.{Answers};
 ghost use Rattle.geometry.specs.Units.{entriesBefore};
 ghost use Rattle.descriptor.specs.Bounds.{Admitted};
 ghost use Rattle.entry.specs.Opening.{slotPositionOf, enteredOf};
@@ -39,7 +39,7 @@ pub fn slot_position(
     number: EntryNumber,
 ) -> u64
     requires { ⌜ Admitted bytes d addresses × (1 ≤ number .0) × (number .0 ≤ entriesBefore (d .xnext)) ⌝ }
-    ensures { λ r. ⌜ r ≡ slotPositionOf d addresses number ⌝ }
+    ensures { λ r. ⌜ Answers (slotPositionOf d addresses number) r ⌝ }
 {
     let slot = slot_of(Growth::new(d.lex1, d.gex), d.nex, d.lind, number);
     let first = aex(addresses, slot.extension);
@@ -54,7 +54,7 @@ pub fn enter(
     number: EntryNumber,
 ) -> Entered
     requires { ⌜ Admitted (length (now file)) d addresses ⌝ }
-    ensures { λ r. ⌜ r ≡ enteredOf (now (file .entry)) d addresses number ⌝ }
+    ensures { λ r. ⌜ Answers (enteredOf (now (file .entry)) d addresses number) r ⌝ }
 {
     if number.0 < 1 {
         return refused(12);
@@ -95,7 +95,7 @@ pub fn enter(
 
 // A part with a refusal, or with nothing in it.
 pub fn no_part(refusal: u32) -> PartPlace
-    ensures { λ r. ⌜ r ≡ noPart refusal ⌝ }
+    ensures { λ r. ⌜ Answers (noPart refusal) r ⌝ }
 {
     PartPlace {
         refusal,
@@ -107,7 +107,7 @@ pub fn no_part(refusal: u32) -> PartPlace
 // The part that holds a count of words from a position on.
 fn words_from(position: u64, words: u64) -> PartPlace
     requires { ⌜ position + words < 2 ^ 32 ⌝ }
-    ensures { λ r. ⌜ r ≡ wordsFrom position words ⌝ }
+    ensures { λ r. ⌜ Answers (wordsFrom position words) r ⌝ }
 {
     let start = byte_offset(position);
     PartPlace {
@@ -125,7 +125,7 @@ pub fn index_part(
     number: EntryNumber,
 ) -> PartPlace
     requires { ⌜ Admitted (length (now file)) d addresses ⌝ }
-    ensures { λ r. ⌜ r ≡ indexPart (now (file .entry)) d addresses number ⌝ }
+    ensures { λ r. ⌜ Answers (indexPart (now (file .entry)) d addresses number) r ⌝ }
 {
     let entered = enter(file, d, addresses, number);
     if entered.refusal != 0 {
@@ -144,7 +144,7 @@ pub fn section_part(
     identifier: i32,
 ) -> PartPlace
     requires { ⌜ Admitted (length (now file)) d addresses ⌝ }
-    ensures { λ r. ⌜ r ≡ sectionPart (now (file .entry)) d addresses number identifier ⌝ }
+    ensures { λ r. ⌜ Answers (sectionPart (now (file .entry)) d addresses number identifier) r ⌝ }
 {
     let entered = enter(file, d, addresses, number);
     if entered.refusal != 0 {
@@ -166,7 +166,7 @@ pub fn data_part(
     number: EntryNumber,
 ) -> PartPlace
     requires { ⌜ Admitted (length (now file)) d addresses ⌝ }
-    ensures { λ r. ⌜ r ≡ dataPart (now (file .entry)) d addresses number ⌝ }
+    ensures { λ r. ⌜ Answers (dataPart (now (file .entry)) d addresses number) r ⌝ }
 {
     let entered = enter(file, d, addresses, number);
     if entered.refusal != 0 {

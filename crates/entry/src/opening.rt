@@ -17,9 +17,9 @@ use geometry::WordNumber;
 use geometry::byte_offset;
 use geometry::entry_position;
 use geometry::position_within;
-ghost use mathlib.Core.Path.{_≡_};
 ghost use Prim.Native.Nat.{_+_, _*_, _^_, _≤_, _<_};
 ghost use lib.ListN.{length};
+ghost use Rattle.outcome.specs.Outcome.{Answers};
 ghost use Rattle.descriptor.specs.FirstRecord.{freeOf};
 ghost use Rattle.descriptor.specs.Bounds.{Settled, Free};
 ghost use Rattle.entry.specs.Opening.{placeOf, startRefusal, headRefusal, contentRefusal, notEntered};
@@ -38,7 +38,7 @@ pub struct Entered {
 
 // An entry with a refusal.
 pub(crate) fn refused(refusal: u32) -> Entered
-    ensures { λ r. ⌜ r ≡ notEntered refusal ⌝ }
+    ensures { λ r. ⌜ Answers (notEntered refusal) r ⌝ }
 {
     Entered {
         refusal,
@@ -60,7 +60,7 @@ pub(crate) fn refused(refusal: u32) -> Entered
 // The place that is stored at a slot.
 pub(crate) fn place_stored(file: &[u8], slot: u64) -> Place
     requires { ⌜ 4 * (slot + 3) ≤ length (now file) ⌝ }
-    ensures { λ r. ⌜ r ≡ placeOf (now (file .entry)) slot ⌝ }
+    ensures { λ r. ⌜ Answers (placeOf (now (file .entry)) slot) r ⌝ }
 {
     Place {
         record: RecordNumber(words::u64_at(file, byte_offset(slot))),
@@ -71,7 +71,7 @@ pub(crate) fn place_stored(file: &[u8], slot: u64) -> Place
 // Rule 13, where an entry starts: 0 or 13.
 pub(crate) fn start_refusal(d: DescriptorNumbers, place: Place) -> u32
     requires { ⌜ Settled d × Free d × (freeOf d ≤ 2 ^ 28) ⌝ }
-    ensures { λ r. ⌜ r ≡ startRefusal d place ⌝ }
+    ensures { λ r. ⌜ Answers (startRefusal d place) r ⌝ }
 {
     if !words::at_least8(place.record.0, 2) {
         return 13;
@@ -94,7 +94,7 @@ pub(crate) fn head_refusal(
     number: EntryNumber,
 ) -> u32
     requires { ⌜ (d .reclen ≤ 4096) × Free d × (start + 11 ≤ freeOf d) × (4 * freeOf d ≤ length (now file)) ⌝ }
-    ensures { λ r. ⌜ r ≡ headRefusal (now (file .entry)) d start number ⌝ }
+    ensures { λ r. ⌜ Answers (headRefusal (now (file .entry)) d start number) r ⌝ }
 {
     let code = byte_offset(entry_position(start, EntryAddress(1)));
     if !words::code_at(file, code, 0x32, 0x20, 0x20, 0x20) {
@@ -120,7 +120,7 @@ pub(crate) fn head_refusal(
 // Rules 17 to 19, what the entry at a position holds: the first that is broken, or 0.
 pub(crate) fn content_refusal(file: &[u8], start: u64, nsec: u64, nword: u64, array: Piece) -> u32
     requires { ⌜ Described (length (now file)) start nsec × (nword < 2 ^ 32) ⌝ }
-    ensures { λ r. ⌜ r ≡ contentRefusal (now (file .entry)) start nsec nword array ⌝ }
+    ensures { λ r. ⌜ Answers (contentRefusal (now (file .entry)) start nsec nword array) r ⌝ }
 {
     if !words::at_least8(array.words, 0) {
         return 17;

@@ -8,12 +8,12 @@ use descriptor::Validated;
 use descriptor::refusal_of;
 use descriptor::validate;
 use geometry::EntryNumber;
-ghost use mathlib.Core.Path.{_≡_};
+ghost use Rattle.outcome.specs.Outcome.{Answers};
 ghost use Rattle.entry.specs.Answers.{indexWordsOf, sectionWordsOf, dataWordsOf, IsPart};
 
 // Where the application's words of an entry's index stand, or the first rule of 1 to 19 that is broken.
 pub fn index_words_place(file: &[u8], number: EntryNumber) -> PartPlace
-    ensures { λ r. ⌜ r ≡ indexWordsOf (now (file .entry)) number ⌝ }
+    ensures { λ r. ⌜ Answers (indexWordsOf (now (file .entry)) number) r ⌝ }
 {
     let validation = validate(file);
     let case = validation.numbers;
@@ -36,14 +36,14 @@ pub fn index_words<'a>(file: &'a [u8], number: EntryNumber) -> &'a [u8]
 
 // The refusal of `index_words`, 0 when the words are handed out.
 pub fn index_words_refusal(file: &[u8], number: EntryNumber) -> u32
-    ensures { λ r. ⌜ r ≡ indexWordsOf (now (file .entry)) number .refusal ⌝ }
+    ensures { λ r. ⌜ Answers (indexWordsOf (now (file .entry)) number .refusal) r ⌝ }
 {
     index_words_place(file, number).refusal
 }
 
 // Where the first section with an identifier stands, or the first rule of 1 to 20 that is broken.
 pub fn section_place(file: &[u8], number: EntryNumber, identifier: i32) -> PartPlace
-    ensures { λ r. ⌜ r ≡ sectionWordsOf (now (file .entry)) number identifier ⌝ }
+    ensures { λ r. ⌜ Answers (sectionWordsOf (now (file .entry)) number identifier) r ⌝ }
 {
     let validation = validate(file);
     let case = validation.numbers;
@@ -72,14 +72,14 @@ pub fn section<'a>(file: &'a [u8], number: EntryNumber, identifier: i32) -> &'a 
 
 // The refusal of `section`, 0 when the section is handed out.
 pub fn section_refusal(file: &[u8], number: EntryNumber, identifier: i32) -> u32
-    ensures { λ r. ⌜ r ≡ sectionWordsOf (now (file .entry)) number identifier .refusal ⌝ }
+    ensures { λ r. ⌜ Answers (sectionWordsOf (now (file .entry)) number identifier .refusal) r ⌝ }
 {
     section_place(file, number, identifier).refusal
 }
 
 // Where the data of an entry stands, or the first rule of 1 to 19 that is broken.
 pub fn data_array_place(file: &[u8], number: EntryNumber) -> PartPlace
-    ensures { λ r. ⌜ r ≡ dataWordsOf (now (file .entry)) number ⌝ }
+    ensures { λ r. ⌜ Answers (dataWordsOf (now (file .entry)) number) r ⌝ }
 {
     let validation = validate(file);
     let case = validation.numbers;
@@ -102,7 +102,7 @@ pub fn data_array<'a>(file: &'a [u8], number: EntryNumber) -> &'a [u8]
 
 // The refusal of `data_array`, 0 when the data is handed out, also where there is none.
 pub fn data_array_refusal(file: &[u8], number: EntryNumber) -> u32
-    ensures { λ r. ⌜ r ≡ dataWordsOf (now (file .entry)) number .refusal ⌝ }
+    ensures { λ r. ⌜ Answers (dataWordsOf (now (file .entry)) number .refusal) r ⌝ }
 {
     data_array_place(file, number).refusal
 }

@@ -3,9 +3,9 @@ use super::contents::section_at;
 use geometry::EntryAddress;
 use geometry::byte_offset;
 use geometry::entry_position;
-ghost use mathlib.Core.Path.{_≡_};
 ghost use Prim.Native.Nat.{_+_, _*_, _≤_, _<_};
 ghost use lib.ListN.{length};
+ghost use Rattle.outcome.specs.Outcome.{Answers};
 ghost use Rattle.entry.specs.EntryDescriptor.{identifierAt};
 ghost use Rattle.entry.specs.Tables.{identifiersOf, lengthsOf, addressesOf, sectionsOf, sectionNamed};
 ghost use Rattle.entry.specs.Bounds.{Described};
@@ -20,7 +20,7 @@ pub struct Sections {
 // The identifier of section `i`, counted from 0.
 pub(crate) fn identifier_at(file: &[u8], start: u64, nsec: u64, i: u64) -> i32
     requires { ⌜ Described (length (now file)) start nsec × (i < nsec) ⌝ }
-    ensures { λ r. ⌜ r ≡ identifierAt (now (file .entry)) start i ⌝ }
+    ensures { λ r. ⌜ Answers (identifierAt (now (file .entry)) start i) r ⌝ }
 {
     words::i32_at(
         file,
@@ -30,7 +30,7 @@ pub(crate) fn identifier_at(file: &[u8], start: u64, nsec: u64, i: u64) -> i32
 
 fn identifiers(file: &[u8], start: u64, nsec: u64) -> [i32; 64]
     requires { ⌜ Described (length (now file)) start nsec ⌝ }
-    ensures { λ r. ⌜ r ≡ identifiersOf (now (file .entry)) start nsec ⌝ }
+    ensures { λ r. ⌜ Answers (identifiersOf (now (file .entry)) start nsec) r ⌝ }
 {
     let mut table = [0i32; 64];
     let mut filled = 0;
@@ -43,7 +43,7 @@ fn identifiers(file: &[u8], start: u64, nsec: u64) -> [i32; 64]
 
 fn lengths(file: &[u8], start: u64, nsec: u64) -> [u64; 64]
     requires { ⌜ Described (length (now file)) start nsec ⌝ }
-    ensures { λ r. ⌜ r ≡ lengthsOf (now (file .entry)) start nsec ⌝ }
+    ensures { λ r. ⌜ Answers (lengthsOf (now (file .entry)) start nsec) r ⌝ }
 {
     let mut table = [0u64; 64];
     let mut filled = 0;
@@ -56,7 +56,7 @@ fn lengths(file: &[u8], start: u64, nsec: u64) -> [u64; 64]
 
 fn addresses(file: &[u8], start: u64, nsec: u64) -> [EntryAddress; 64]
     requires { ⌜ Described (length (now file)) start nsec ⌝ }
-    ensures { λ r. ⌜ r ≡ addressesOf (now (file .entry)) start nsec ⌝ }
+    ensures { λ r. ⌜ Answers (addressesOf (now (file .entry)) start nsec) r ⌝ }
 {
     let mut table = [EntryAddress(0); 64];
     let mut filled = 0;
@@ -72,7 +72,7 @@ fn addresses(file: &[u8], start: u64, nsec: u64) -> [EntryAddress; 64]
 // The three tables of an entry.
 pub(crate) fn section_tables(file: &[u8], start: u64, nsec: u64) -> Sections
     requires { ⌜ Described (length (now file)) start nsec ⌝ }
-    ensures { λ r. ⌜ r ≡ sectionsOf (now (file .entry)) start nsec ⌝ }
+    ensures { λ r. ⌜ Answers (sectionsOf (now (file .entry)) start nsec) r ⌝ }
 {
     Sections {
         identifiers: identifiers(file, start, nsec),
@@ -84,7 +84,7 @@ pub(crate) fn section_tables(file: &[u8], start: u64, nsec: u64) -> Sections
 // The first section with an identifier, counted from 0, or nsec where none has it.
 pub(crate) fn section_named(file: &[u8], start: u64, nsec: u64, identifier: i32) -> u64
     requires { ⌜ Described (length (now file)) start nsec ⌝ }
-    ensures { λ r. ⌜ r ≡ sectionNamed (now (file .entry)) start identifier 0 nsec ⌝ }
+    ensures { λ r. ⌜ Answers (sectionNamed (now (file .entry)) start identifier 0 nsec) r ⌝ }
 {
     let mut passed = 0;
     while passed < nsec {

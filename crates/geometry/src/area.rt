@@ -3,8 +3,8 @@ use super::growth::Growth;
 use super::growth::grown;
 use super::units::EntryNumber;
 use super::units::ExtensionNumber;
-ghost use mathlib.Core.Path.{_≡_};
 ghost use Prim.Native.Nat.{_+_, _^_, _≤_, _<_};
+ghost use Rattle.outcome.specs.Outcome.{Answers};
 ghost use Rattle.geometry.specs.Growth.{totalOf, Growing};
 ghost use Rattle.geometry.specs.Area.{recordsFor, areaRecords, slotOf};
 
@@ -19,7 +19,7 @@ pub struct Slot {
 // How many whole records hold a count of words.
 pub fn records_for(words: u64, reclen: u64) -> u64
     requires { ⌜ (1 ≤ reclen) × (words + reclen < 2 ^ 64) ⌝ }
-    ensures { λ r. ⌜ r ≡ recordsFor words reclen ⌝ }
+    ensures { λ r. ⌜ Answers (recordsFor words reclen) r ⌝ }
 {
     (words + (reclen - 1)) / reclen
 }
@@ -27,7 +27,7 @@ pub fn records_for(words: u64, reclen: u64) -> u64
 // How many records an index area takes.
 pub fn area_records(capacity: u64, lind: u64, reclen: u64) -> u64
     requires { ⌜ (capacity ≤ 16384) × (lind ≤ 256) × (1 ≤ reclen) × (reclen ≤ 4096) ⌝ }
-    ensures { λ r. ⌜ r ≡ areaRecords capacity lind reclen ⌝ }
+    ensures { λ r. ⌜ Answers (areaRecords capacity lind reclen) r ⌝ }
 {
     records_for(capacity * lind, reclen)
 }
@@ -35,7 +35,7 @@ pub fn area_records(capacity: u64, lind: u64, reclen: u64) -> u64
 // The slot of an entry among those of the first `nex` extensions, where slots are `lind` words long.
 pub fn slot_of(growth: Growth, nex: u64, lind: u64, entry: EntryNumber) -> Slot
     requires { ⌜ (nex ≤ 16) × Growing growth nex × (lind ≤ 256) × (1 ≤ entry .0) × (entry .0 ≤ totalOf growth nex) ⌝ }
-    ensures { λ r. ⌜ r ≡ slotOf growth nex lind entry ⌝ }
+    ensures { λ r. ⌜ Answers (slotOf growth nex lind entry) r ⌝ }
 {
     let number = entry.0;
     let mut extension = 1;

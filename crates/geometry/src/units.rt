@@ -1,7 +1,7 @@
 // Units counted from 1, and the named functions that turn them into positions and back.
-ghost use mathlib.Core.Path.{_≡_};
 ghost use Prim.Native.Nat.{_+_, _^_, _≤_, _<_};
 ghost use lib.Dec.{leb};
+ghost use Rattle.outcome.specs.Outcome.{Answers};
 ghost use Rattle.geometry.specs.Units.{positionOf, placeOf, entryPositionOf, entryAddressOf, offsetOf, firstRecordOffsetOf, entriesBefore, indexOf};
 
 // A record of the file.
@@ -28,7 +28,7 @@ pub struct Place {
 // The position of a record's word.
 pub fn position(reclen: u64, record: RecordNumber, word: WordNumber) -> u64
     requires { ⌜ (1 ≤ «record» .0) × («record» .0 ≤ 2 ^ 32) × (1 ≤ word .0) × (word .0 ≤ 2 ^ 32) × (reclen ≤ 4096) ⌝ }
-    ensures { λ r. ⌜ r ≡ positionOf reclen «record» word ⌝ }
+    ensures { λ r. ⌜ Answers (positionOf reclen «record» word) r ⌝ }
 {
     (record.0 - 1) * reclen + (word.0 - 1)
 }
@@ -36,7 +36,7 @@ pub fn position(reclen: u64, record: RecordNumber, word: WordNumber) -> u64
 // Whether the position of a record's word is at most `limit`, however large the record's number is.
 pub fn position_within(reclen: u64, record: RecordNumber, word: WordNumber, limit: u64) -> bool
     requires { ⌜ (1 ≤ reclen) × (reclen ≤ 4096) × (1 ≤ «record» .0) × (1 ≤ word .0) × (word .0 ≤ 2 ^ 32) × (limit < 2 ^ 32) ⌝ }
-    ensures { λ r. ⌜ r ≡ leb (positionOf reclen «record» word) limit ⌝ }
+    ensures { λ r. ⌜ Answers (leb (positionOf reclen «record» word) limit) r ⌝ }
 {
     if limit < record.0 - 1 {
         return false;
@@ -47,7 +47,7 @@ pub fn position_within(reclen: u64, record: RecordNumber, word: WordNumber, limi
 // The record and word at a position.
 pub fn place_at(reclen: u64, position: u64) -> Place
     requires { ⌜ (1 ≤ reclen) × (position < 2 ^ 63) ⌝ }
-    ensures { λ r. ⌜ r ≡ placeOf reclen position ⌝ }
+    ensures { λ r. ⌜ Answers (placeOf reclen position) r ⌝ }
 {
     Place {
         record: RecordNumber(position / reclen + 1),
@@ -58,7 +58,7 @@ pub fn place_at(reclen: u64, position: u64) -> Place
 // The position of a word of the entry that starts at position `start`.
 pub fn entry_position(start: u64, address: EntryAddress) -> u64
     requires { ⌜ (1 ≤ address .0) × (start + address .0 < 2 ^ 64) ⌝ }
-    ensures { λ r. ⌜ r ≡ entryPositionOf start address ⌝ }
+    ensures { λ r. ⌜ Answers (entryPositionOf start address) r ⌝ }
 {
     start + (address.0 - 1)
 }
@@ -66,7 +66,7 @@ pub fn entry_position(start: u64, address: EntryAddress) -> u64
 // The address of a position in the entry that starts at position `start`.
 pub fn entry_address(start: u64, position: u64) -> EntryAddress
     requires { ⌜ (start ≤ position) × (position < 2 ^ 63) ⌝ }
-    ensures { λ r. ⌜ r ≡ entryAddressOf start position ⌝ }
+    ensures { λ r. ⌜ Answers (entryAddressOf start position) r ⌝ }
 {
     EntryAddress(position - start + 1)
 }
@@ -74,7 +74,7 @@ pub fn entry_address(start: u64, position: u64) -> EntryAddress
 // The offset in bytes of a position, and as well the length in bytes of a count of words.
 pub fn byte_offset(position: u64) -> usize
     requires { ⌜ position < 2 ^ 61 ⌝ }
-    ensures { λ r. ⌜ r ≡ offsetOf position ⌝ }
+    ensures { λ r. ⌜ Answers (offsetOf position) r ⌝ }
 {
     (4 * position) as usize
 }
@@ -82,7 +82,7 @@ pub fn byte_offset(position: u64) -> usize
 // The offset in bytes of a word of the first record.
 pub fn first_record_offset(word: WordNumber) -> usize
     requires { ⌜ (1 ≤ word .0) × (word .0 ≤ 4096) ⌝ }
-    ensures { λ r. ⌜ r ≡ firstRecordOffsetOf word ⌝ }
+    ensures { λ r. ⌜ Answers (firstRecordOffsetOf word) r ⌝ }
 {
     byte_offset(word.0 - 1)
 }
@@ -90,7 +90,7 @@ pub fn first_record_offset(word: WordNumber) -> usize
 // How many entries come before an entry.
 pub fn entries_before(entry: EntryNumber) -> u64
     requires { ⌜ 1 ≤ entry .0 ⌝ }
-    ensures { λ r. ⌜ r ≡ entriesBefore entry ⌝ }
+    ensures { λ r. ⌜ Answers (entriesBefore entry) r ⌝ }
 {
     entry.0 - 1
 }
@@ -98,7 +98,7 @@ pub fn entries_before(entry: EntryNumber) -> u64
 // The index of an extension in a table of addresses, counted from 0.
 pub fn table_index(extension: ExtensionNumber) -> usize
     requires { ⌜ 1 ≤ extension .0 ⌝ }
-    ensures { λ r. ⌜ r ≡ indexOf extension ⌝ }
+    ensures { λ r. ⌜ Answers (indexOf extension) r ⌝ }
 {
     (extension.0 - 1) as usize
 }

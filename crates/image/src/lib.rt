@@ -3,15 +3,15 @@
 // An image is a list of bytes, and offsets count bytes from 0. Each function says what the whole
 // slice holds at exit, so a caller learns of every byte whether it changed. Every write of this
 // project goes through one of the two.
-ghost use mathlib.Core.Path.{_≡_};
 ghost use Prim.Native.Nat.{_+_, _≤_};
 ghost use lib.ListN.{length};
+ghost use Rattle.outcome.specs.Outcome.{Leaves};
 ghost use Rattle.image.specs.Image.{splice, zeros};
 
 // Copies all of `bytes` over the image from offset `at` on.
 pub fn put(image: &mut [u8], at: usize, bytes: &[u8])
     requires { ⌜ at + length (now bytes) ≤ length (now image) ⌝ }
-    ensures { λ _. ⌜ now (image .exit) ≡ splice (now (image .entry)) at (now (bytes .entry)) ⌝ }
+    ensures { λ _. ⌜ Leaves (splice (now (image .entry)) at (now (bytes .entry))) (now (image .exit)) ⌝ }
 {
     let mut done = 0;
     while done < bytes.len() {
@@ -23,7 +23,7 @@ pub fn put(image: &mut [u8], at: usize, bytes: &[u8])
 // Fills `count` bytes of the image with zeros, from offset `at` on.
 pub fn zero(image: &mut [u8], at: usize, count: usize)
     requires { ⌜ at + count ≤ length (now image) ⌝ }
-    ensures { λ _. ⌜ now (image .exit) ≡ splice (now (image .entry)) at (zeros count) ⌝ }
+    ensures { λ _. ⌜ Leaves (splice (now (image .entry)) at (zeros count)) (now (image .exit)) ⌝ }
 {
     let mut done = 0;
     while done < count {

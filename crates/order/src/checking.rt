@@ -4,7 +4,7 @@ use descriptor::Validated;
 use descriptor::refusal_of;
 use descriptor::validate;
 use geometry::EntryNumber;
-ghost use mathlib.Core.Path.{_≡_};
+ghost use Rattle.outcome.specs.Outcome.{Answers};
 ghost use Rattle.order.specs.Order.{checkOf};
 
 // The answer of the check: the first entry that fails with its refusal, 0 and 0 where all pass, and
@@ -16,7 +16,7 @@ pub struct Checked {
 
 // Checks that all entries open and stand in the order of appends.
 pub fn check_order(file: &[u8]) -> Checked
-    ensures { λ r. ⌜ r ≡ checkOf (now (file .entry)) ⌝ }
+    ensures { λ r. ⌜ Answers (checkOf (now (file .entry))) r ⌝ }
 {
     let validation = validate(file);
     let case = validation.numbers;

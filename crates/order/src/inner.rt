@@ -9,15 +9,15 @@ use geometry::Growth;
 use geometry::RecordNumber;
 use geometry::entries_before;
 use geometry::slot_of;
-ghost use mathlib.Core.Path.{_≡_};
 ghost use lib.ListN.{length};
+ghost use Rattle.outcome.specs.Outcome.{Answers};
 ghost use Rattle.descriptor.specs.Bounds.{Admitted};
 ghost use Rattle.order.specs.Order.{checkedAll};
 
 // The first entry that fails, with its refusal, or 0 and 0.
 pub fn check_entries(file: &[u8], d: DescriptorNumbers, addresses: [RecordNumber; 16]) -> Checked
     requires { ⌜ Admitted (length (now file)) d addresses ⌝ }
-    ensures { λ r. ⌜ r ≡ checkedAll (now (file .entry)) d addresses ⌝ }
+    ensures { λ r. ⌜ Answers (checkedAll (now (file .entry)) d addresses) r ⌝ }
 {
     let bytes = file.len() as u64;
     let growth = Growth::new(d.lex1, d.gex);

@@ -9,8 +9,8 @@ use geometry::Slot;
 use geometry::WordNumber;
 use geometry::capacity;
 use geometry::position;
-ghost use mathlib.Core.Path.{_≡_};
 ghost use Prim.Native.Nat.{_≤_};
+ghost use Rattle.outcome.specs.Outcome.{Answers};
 ghost use Rattle.descriptor.specs.Bounds.{Admitted};
 ghost use Rattle.order.specs.Order.{startsInOrder, endsInOrder};
 
@@ -25,7 +25,7 @@ pub(crate) fn starts_in_order(
     start: u64,
 ) -> bool
     requires { ⌜ Admitted bytes d addresses × (1 ≤ slot .extension .0) × (slot .extension .0 ≤ d .nex) ⌝ }
-    ensures { λ r. ⌜ r ≡ startsInOrder d addresses slot before start ⌝ }
+    ensures { λ r. ⌜ Answers (startsInOrder d addresses slot before start) r ⌝ }
 {
     if slot.place == 1 {
         let after = RecordNumber(area_after(d, addresses, slot.extension.0));
@@ -43,7 +43,7 @@ pub(crate) fn ends_in_order(
     end: u64,
 ) -> bool
     requires { ⌜ Admitted bytes d addresses × (1 ≤ slot .extension .0) × (slot .extension .0 ≤ d .nex) ⌝ }
-    ensures { λ r. ⌜ r ≡ endsInOrder d addresses slot end ⌝ }
+    ensures { λ r. ⌜ Answers (endsInOrder d addresses slot end) r ⌝ }
 {
     let extension = slot.extension;
     if slot.place != capacity(Growth::new(d.lex1, d.gex), extension) {

@@ -36,7 +36,7 @@ use Rattle.writer.proofs.HandedIn.{accepted}
 use Rattle.writer.proofs.Accepting.{after, admitted-after}
 use Rattle.writer.proofs.ReadBack.{validated-after}
 use Rattle.writer.proofs.Returned.{file-after}
-use Rattle.promises.specs.Calls.{Call, append, afterCall, run}
+use Rattle.promises.specs.Calls.{Call, append, AllFit, run}
 use Rattle.promises.specs.Regions.{SoundIn}
 use Rattle.promises.proofs.Spread.{entryAt}
 use Rattle.promises.proofs.SoundAfter.{by-last, by-area, entries-then, nex-then, area-from, area-to, area-new, entry-same, start-last, old-end, areas-before, opens-then}
@@ -160,6 +160,6 @@ append-again file h g c =
     (λ q. ap checkOf (append-refused file h q .0) ∙ c)
 
 -- the order check passes again
-pub run-ordered : (calls : List Call) (file : List ℕ) → checkOf file ≡ allPass → checkOf (run calls file) ≡ allPass
-run-ordered [] file c = c
-run-ordered (append h g ∷ cs) file c = run-ordered cs (fileAfter file h) (append-again file h g c)
+pub run-ordered : (calls : List Call) → AllFit calls → (file : List ℕ) → checkOf file ≡ allPass → checkOf (run calls file) ≡ allPass
+run-ordered [] g file c = c
+run-ordered (append h ∷ cs) g file c = run-ordered cs (g .1) (fileAfter file h) (append-again file h (g .0) c)

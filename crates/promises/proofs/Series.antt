@@ -20,8 +20,9 @@ use Rattle.writer.specs.Rules.{appendRefusal}
 use Rattle.writer.specs.Answers.{appendOf, fileAfter}
 use Rattle.writer.proofs.Kept.{either}
 use Rattle.promises.specs.Contents.{Reading, holds, entriesIn, inOrder, contents}
-use Rattle.promises.specs.Calls.{Call, append, answerOf, afterCall, run, answers, handedContent, added, accepted, numbersGiven, following}
+use Rattle.promises.specs.Calls.{Call, append, Fits, AllFit, answerOf, afterCall, run, answers, handedContent, added, accepted, numbersGiven, following}
 use Rattle.promises.specs.Regions.{Sound}
+use Rattle.promises.specs.Demand.{entriesOf}
 use Rattle.promises.proofs.Readings.{length-contents}
 use Rattle.promises.proofs.Refusing.{refusalThere, answer-there, number-there, append-refused}
 use Rattle.promises.proofs.AppendAdds.{append-sound, append-contents}
@@ -38,7 +39,7 @@ module _ (file : List ℕ) (s : Sound file) (h : Handed) (g : Integers h) where
   sound-append : Sound (fileAfter file h)
   sound-append = by-answer (λ a q. append-sound file h g s a) (λ q. subst Sound (sym (append-refused file h q .0)) s)
 
-  contents-append : contents (fileAfter file h) ≡ contents file ++ added (append h g) (appendOf file h)
+  contents-append : contents (fileAfter file h) ≡ contents file ++ added (append h) (appendOf file h)
   contents-append =
       by-answer
       (λ a q. append-contents file h g s a ∙ sym (ap (λ (b : Bool). contents file ++ cond b (holds (handedContent h) ∷ []) []) q))
@@ -46,38 +47,34 @@ module _ (file : List ℕ) (s : Sound file) (h : Handed) (g : Integers h) where
       ∙ sym (append-nil (contents file))
       ∙ sym (ap (λ (b : Bool). contents file ++ cond b (holds (handedContent h) ∷ []) []) q))
 
-pub step-sound : (file : List ℕ) → Sound file → (c : Call) → Sound (afterCall file c)
-step-sound file s (append h g) = sound-append file s h g
+pub step-sound : (file : List ℕ) → Sound file → (c : Call) → Fits c → Sound (afterCall file c)
+step-sound file s (append h) g = sound-append file s h g
 
-pub step-contents : (file : List ℕ) → Sound file → (c : Call) → contents (afterCall file c) ≡ contents file ++ added c (answerOf file c)
-step-contents file s (append h g) = contents-append file s h g
+pub step-contents : (file : List ℕ) → Sound file → (c : Call) → Fits c → contents (afterCall file c) ≡ contents file ++ added c (answerOf file c)
+step-contents file s (append h) g = contents-append file s h g
 
 -- ---- a series of calls
 
 -- the file is sound again: it is admitted, all its entries open, and no two of its regions share a word
-pub run-sound : (calls : List Call) (file : List ℕ) → Sound file → Sound (run calls file)
-run-sound [] file s = s
-run-sound (c ∷ cs) file s = run-sound cs (afterCall file c) (step-sound file s c)
+pub run-sound : (calls : List Call) → AllFit calls → (file : List ℕ) → Sound file → Sound (run calls file)
+run-sound [] g file s = s
+run-sound (c ∷ cs) g file s = run-sound cs (g .1) (afterCall file c) (step-sound file s c (g .0))
 
 -- the starting entries, and then every accepted one, once, in order, unchanged
-pub run-contents : (calls : List Call) (file : List ℕ) → Sound file → contents (run calls file) ≡ contents file ++ accepted calls (answers calls file)
-run-contents [] file s = sym (append-nil (contents file))
-run-contents (c ∷ cs) file s =
+pub run-contents : (calls : List Call) → AllFit calls → (file : List ℕ) → Sound file → contents (run calls file) ≡ contents file ++ accepted calls (answers calls file)
+run-contents [] g file s = sym (append-nil (contents file))
+run-contents (c ∷ cs) g file s =
     let next = afterCall file c in
-    run-contents cs next (step-sound file s c)
-    ∙ ap (λ (l : List Reading). l ++ accepted cs (answers cs next)) (step-contents file s c)
+    run-contents cs (g .1) next (step-sound file s c (g .0))
+    ∙ ap (λ (l : List Reading). l ++ accepted cs (answers cs next)) (step-contents file s c (g .0))
     ∙ append-assoc (contents file) (added c (answerOf file c)) (accepted cs (answers cs next))
 
 -- ---- the numbers answered
 
--- the entries of a file
-abbrev pub entriesOf : List ℕ → ℕ
-entriesOf file = entriesIn (validationOf file .numbers)
-
-step-count : (file : List ℕ) → Sound file → (c : Call) → entriesOf (afterCall file c) ≡ entriesOf file + length (added c (answerOf file c))
-step-count file s c =
+step-count : (file : List ℕ) → Sound file → (c : Call) → Fits c → entriesOf (afterCall file c) ≡ entriesOf file + length (added c (answerOf file c))
+step-count file s c g =
     sym (length-contents (afterCall file c))
-    ∙ ap length (step-contents file s c)
+    ∙ ap length (step-contents file s c g)
     ∙ length-append (contents file) (added c (answerOf file c))
     ∙ ap (λ (n : ℕ). n + length (added c (answerOf file c))) (length-contents file)
 
@@ -87,13 +84,13 @@ given-next true number n m rest item more p e r = ap₂ (λ (k : ℕ) (l : List 
 given-next false number n m rest item more p e r = let q : m ≡ n = omega arith in r ∙ ap (λ (k : ℕ). following k (length more)) q
 
 -- the k-th accepted call answers n + k
-pub run-numbers : (calls : List Call) (file : List ℕ) → Sound file
+pub run-numbers : (calls : List Call) → AllFit calls → (file : List ℕ) → Sound file
     → numbersGiven (answers calls file) ≡ following (entriesOf file) (length (accepted calls (answers calls file)))
-run-numbers [] file s = refl
-run-numbers (append h g ∷ cs) file s =
+run-numbers [] g file s = refl
+run-numbers (append h ∷ cs) g file s =
     let next = fileAfter file h in
     given-next (eqb (appendOf file h .refusal) 0) (appendOf file h .number .0) (entriesOf file) (entriesOf next) (numbersGiven (answers cs next))
-    (holds (handedContent h)) (accepted cs (answers cs next)) number (step-count file s (append h g)) (run-numbers cs next (sound-append file s h g))
+    (holds (handedContent h)) (accepted cs (answers cs next)) number (step-count file s (append h) (g .0)) (run-numbers cs (g .1) next (sound-append file s h (g .0)))
   where
     number : eqb (appendOf file h .refusal) 0 ≡ true → appendOf file h .number .0 ≡ entriesOf file + 1
     number q =

@@ -11,16 +11,24 @@ use Rattle.writer.specs.Handed.{Handed, Integers, wordsOf}
 use Rattle.writer.specs.Answers.{appendOf, fileAfter}
 use Rattle.promises.specs.Contents.{Section, Content, Reading, holds}
 
--- a call: an append with all that is handed in, its integers such as their words can hold
+-- a call: an append with all that is handed in
 pub data Call : Type 0 where
-  append : (h : Handed) → Integers h → Call
+  append : Handed → Call
+
+-- its integers are ones that their words can hold, as every caller's are
+abbrev pub Fits : Call → Type 0
+Fits (append h) = Integers h
+
+abbrev pub AllFit : List Call → Type 0
+AllFit [] = Unit
+AllFit (c ∷ cs) = Fits c × AllFit cs
 
 -- what a call answers, and the file after it
 abbrev pub answerOf : List ℕ → Call → Appended
-answerOf file (append h g) = appendOf file h
+answerOf file (append h) = appendOf file h
 
 abbrev pub afterCall : List ℕ → Call → List ℕ
-afterCall file (append h g) = fileAfter file h
+afterCall file (append h) = fileAfter file h
 
 -- the file after a series of calls
 abbrev pub run : List Call → List ℕ → List ℕ
@@ -51,7 +59,7 @@ handedContent h = record {
 
 -- what a call with an answer adds: its content where the answer is no refusal. Of the file afterwards nothing is looked at
 abbrev pub added : Call → Appended → List Reading
-added (append h g) a = cond (eqb (a .refusal) 0) (holds (handedContent h) ∷ []) []
+added (append h) a = cond (eqb (a .refusal) 0) (holds (handedContent h) ∷ []) []
 
 -- what was accepted: of each call in turn, by its arguments and its answer alone
 abbrev pub accepted : List Call → List Appended → List Reading

@@ -1,15 +1,15 @@
 // Comparing four bytes of an image with a code.
-ghost use mathlib.Core.Path.{_≡_};
 ghost use mathlib.Core.List.{[], _∷_};
 ghost use Prim.Native.Nat.{_+_, _≤_};
 ghost use lib.ListN.{length};
+ghost use Rattle.outcome.specs.Outcome.{Answers};
 ghost use Rattle.image.specs.Image.{part};
 ghost use Rattle.words.specs.Code.{sameBytes};
 
 // Whether the four bytes at offset `at` are these.
 pub fn code_at(image: &[u8], at: usize, a: u8, b: u8, c: u8, d: u8) -> bool
     requires { ⌜ at + 4 ≤ length (now image) ⌝ }
-    ensures { λ r. ⌜ r ≡ sameBytes (part (now (image .entry)) at 4) (a ∷ b ∷ c ∷ d ∷ []) ⌝ }
+    ensures { λ r. ⌜ Answers (sameBytes (part (now (image .entry)) at 4) (a ∷ b ∷ c ∷ d ∷ [])) r ⌝ }
 {
     if image[at] != a {
         return false;

@@ -1,16 +1,16 @@
 // Writing a word at an offset.
 use super::sign::bits32;
 use super::sign::bits64;
-ghost use mathlib.Core.Path.{_≡_};
 ghost use Prim.Native.Nat.{_+_, _≤_};
 ghost use lib.ListN.{length};
+ghost use Rattle.outcome.specs.Outcome.{Leaves};
 ghost use Rattle.image.specs.Image.{splice};
 ghost use Rattle.words.specs.Word.{numeral, integer4, integer8, signedNumeral};
 
 // Writes the Integer*4 with these bits at offset `at`.
 pub fn put_u32(image: &mut [u8], at: usize, bits: u32)
     requires { ⌜ at + 4 ≤ length (now image) ⌝ }
-    ensures { λ _. ⌜ now (image .exit) ≡ splice (now (image .entry)) at (numeral 4 bits) ⌝ }
+    ensures { λ _. ⌜ Leaves (splice (now (image .entry)) at (numeral 4 bits)) (now (image .exit)) ⌝ }
 {
     let second = bits / 256;
     let third = second / 256;
@@ -27,7 +27,7 @@ pub fn put_u32(image: &mut [u8], at: usize, bits: u32)
 // Writes the Integer*8 with these bits at offset `at`.
 pub fn put_u64(image: &mut [u8], at: usize, bits: u64)
     requires { ⌜ at + 8 ≤ length (now image) ⌝ }
-    ensures { λ _. ⌜ now (image .exit) ≡ splice (now (image .entry)) at (numeral 8 bits) ⌝ }
+    ensures { λ _. ⌜ Leaves (splice (now (image .entry)) at (numeral 8 bits)) (now (image .exit)) ⌝ }
 {
     let second = bits / 256;
     let third = second / 256;
@@ -52,7 +52,7 @@ pub fn put_u64(image: &mut [u8], at: usize, bits: u64)
 // Writes a value as the Integer*4 at offset `at`.
 pub fn put_i32(image: &mut [u8], at: usize, value: i32)
     requires { ⌜ at + 4 ≤ length (now image) ⌝ }
-    ensures { λ _. ⌜ now (image .exit) ≡ splice (now (image .entry)) at (signedNumeral integer4 value) ⌝ }
+    ensures { λ _. ⌜ Leaves (splice (now (image .entry)) at (signedNumeral integer4 value)) (now (image .exit)) ⌝ }
 {
     put_u32(image, at, bits32(value))
 }
@@ -60,7 +60,7 @@ pub fn put_i32(image: &mut [u8], at: usize, value: i32)
 // Writes a value as the Integer*8 at offset `at`.
 pub fn put_i64(image: &mut [u8], at: usize, value: i64)
     requires { ⌜ at + 8 ≤ length (now image) ⌝ }
-    ensures { λ _. ⌜ now (image .exit) ≡ splice (now (image .entry)) at (signedNumeral integer8 value) ⌝ }
+    ensures { λ _. ⌜ Leaves (splice (now (image .entry)) at (signedNumeral integer8 value)) (now (image .exit)) ⌝ }
 {
     put_u64(image, at, bits64(value))
 }

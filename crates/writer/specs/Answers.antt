@@ -5,6 +5,7 @@ use mathlib.Core.Bool.{cond}
 use mathlib.Core.List.{List}
 use lib.Dec.{eqb}
 use lib.ListN.{length}
+use Rattle.outcome.specs.Outcome.{AnswersAndLeaves}
 use Rattle.geometry.specs.declared.units.RecordNumber.{RecordNumber}
 use Rattle.descriptor.specs.declared.numbers.DescriptorNumbers.{DescriptorNumbers}
 use Rattle.descriptor.specs.declared.validating.Validated.{Validated}
@@ -50,3 +51,11 @@ appendOf file h = appendIn file (validationOf file .numbers) (validationOf file 
 
 abbrev pub fileAfter : List ℕ → Handed → List ℕ
 fileAfter file h = fileIn file (validationOf file .numbers) (validationOf file .addresses) h
+
+-- what `append` promises: the refusal and the new number, and the file after it
+abbrev pub Appends : List ℕ → Handed → Appended → List ℕ → Type 0
+Appends file h answer after = AnswersAndLeaves (appendOf file h) (fileAfter file h) answer after
+
+-- and `append_from`, to admitted numbers
+abbrev pub AppendsFrom : List ℕ → DescriptorNumbers → List RecordNumber → Handed → AppendedFrom → List ℕ → Type 0
+AppendsFrom file d addresses h answer after = AnswersAndLeaves (appendedFrom (length file) d addresses h) (fileFrom file d addresses h) answer after

@@ -4,6 +4,7 @@ use mathlib.Core.Bool.{cond}
 use mathlib.Core.List.{List, [], _∷_}
 use lib.Dec.{eqb}
 use lib.ListN.{length}
+use Rattle.outcome.specs.Outcome.{AnswersAndLeaves}
 use Rattle.image.specs.Image.{zeros}
 use Rattle.image.specs.Writes.{Write, put, writes}
 use Rattle.words.specs.Word.{numeral}
@@ -60,3 +61,7 @@ creationRefusal bytes s = refusalIn (creationRules bytes (createdOf s))
 -- the file after a creation; a refused one changes nothing
 unfoldable pub createdFile : List ℕ → Settings → List ℕ
 createdFile file s = cond (eqb (creationRefusal (length file) s) 0) (firstWritten file (createdOf s)) file
+
+-- what `create` promises: the refusal, and the file after it
+abbrev pub Creates : List ℕ → Settings → ℕ → List ℕ → Type 0
+Creates file s answer after = AnswersAndLeaves (creationRefusal (length file) s) (createdFile file s) answer after

@@ -4,9 +4,8 @@ use descriptor::Validated;
 use descriptor::refusal_of;
 use descriptor::validate;
 use geometry::EntryNumber;
-ghost use mathlib.Core.Path.{_≡_};
 ghost use Rattle.writer.specs.Handed.{handedIn};
-ghost use Rattle.writer.specs.Answers.{appendOf, fileAfter};
+ghost use Rattle.writer.specs.Answers.{Appends};
 
 // The answer of `append`: the refusal, 0 when accepted, and the new entry's number, 0 when refused.
 pub struct Appended {
@@ -26,8 +25,7 @@ pub fn append(
     sections: &[u8],
     values: &[u8],
 ) -> Appended
-    ensures answer { λ r. ⌜ r ≡ appendOf (now (file .entry)) (handedIn version (now (index .entry)) (now (ids .entry)) (now (lengths .entry)) (now (sections .entry)) (now (values .entry))) ⌝ }
-    ensures bytes { λ r. ⌜ now (file .exit) ≡ fileAfter (now (file .entry)) (handedIn version (now (index .entry)) (now (ids .entry)) (now (lengths .entry)) (now (sections .entry)) (now (values .entry))) ⌝ }
+    ensures { λ r. ⌜ Appends (now (file .entry)) (handedIn version (now (index .entry)) (now (ids .entry)) (now (lengths .entry)) (now (sections .entry)) (now (values .entry))) r (now (file .exit)) ⌝ }
 {
     let validation = validate(file);
     let case = validation.numbers;

@@ -5,15 +5,15 @@ use super::fields::put_settings;
 use descriptor::DescriptorNumbers;
 use descriptor::Settings;
 use descriptor::setting_refusal;
-ghost use mathlib.Core.Path.{_≡_};
 ghost use Prim.Native.Nat.{_*_, _≤_};
 ghost use lib.ListN.{length};
-ghost use Rattle.writer.specs.Creation.{firstWritten, creationRefusal, createdFile};
+ghost use Rattle.outcome.specs.Outcome.{Answers, Leaves};
+ghost use Rattle.writer.specs.Creation.{firstWritten, Creates};
 ghost use Rattle.writer.specs.Bounds.{Storable};
 
 // The refusal of a creation with these numbers: 1, then 3 to 8.
 fn creation_refusal(bytes: u64, settings: Settings) -> u32
-    ensures { λ r. ⌜ r ≡ creationRefusal bytes settings ⌝ }
+    ensures { λ r. ⌜ Answers (creationRefusal bytes settings) r ⌝ }
 {
     if bytes < 64 {
         return 1;
@@ -24,7 +24,7 @@ fn creation_refusal(bytes: u64, settings: Settings) -> u32
 // Writes the first record of a new file.
 fn put_first(file: &mut [u8], d: DescriptorNumbers)
     requires { ⌜ Storable d × (16 ≤ d .reclen) × (d .reclen ≤ 4096) × (4 * d .reclen ≤ length (now file)) ⌝ }
-    ensures { λ _. ⌜ now (file .exit) ≡ firstWritten (now (file .entry)) d ⌝ }
+    ensures { λ _. ⌜ Leaves (firstWritten (now (file .entry)) d) (now (file .exit)) ⌝ }
 {
     put_settings(file, d);
     put_counts(file, d);
@@ -33,8 +33,7 @@ fn put_first(file: &mut [u8], d: DescriptorNumbers)
 
 // Creates a file in the lent bytes: its first record, with no entries. Answers 0, or the refusal.
 pub fn create(file: &mut [u8], settings: Settings) -> u32
-    ensures answer { λ r. ⌜ r ≡ creationRefusal (length (now (file .entry))) settings ⌝ }
-    ensures file { λ r. ⌜ now (file .exit) ≡ createdFile (now (file .entry)) settings ⌝ }
+    ensures { λ r. ⌜ Creates (now (file .entry)) settings r (now (file .exit)) ⌝ }
 {
     let refusal = creation_refusal(file.len() as u64, settings);
     if refusal != 0 {

@@ -3,9 +3,9 @@ use descriptor::DescriptorNumbers;
 use geometry::WordNumber;
 use geometry::byte_offset;
 use geometry::first_record_offset;
-ghost use mathlib.Core.Path.{_≡_};
 ghost use Prim.Native.Nat.{_+_, _*_, _^_, _≤_, _<_};
 ghost use lib.ListN.{length};
+ghost use Rattle.outcome.specs.Outcome.{Leaves};
 ghost use Rattle.image.specs.Image.{splice};
 ghost use Rattle.image.specs.Writes.{writes};
 ghost use Rattle.words.specs.Word.{numeral};
@@ -15,7 +15,7 @@ ghost use Rattle.writer.specs.Bounds.{Storable};
 // Writes the Integer*4 at a word of the first record.
 pub(crate) fn put_field4(file: &mut [u8], word: u64, bits: u64)
     requires { ⌜ (1 ≤ word) × (word ≤ 4096) × (4 * word ≤ length (now file)) × (bits < 2 ^ 32) ⌝ }
-    ensures { λ _. ⌜ now (file .exit) ≡ splice (now (file .entry)) (fieldOffset word) (numeral 4 bits) ⌝ }
+    ensures { λ _. ⌜ Leaves (splice (now (file .entry)) (fieldOffset word) (numeral 4 bits)) (now (file .exit)) ⌝ }
 {
     words::put_u32(file, first_record_offset(WordNumber(word)), bits as u32)
 }
@@ -23,7 +23,7 @@ pub(crate) fn put_field4(file: &mut [u8], word: u64, bits: u64)
 // Writes the Integer*8 at a word of the first record and the next.
 pub(crate) fn put_field8(file: &mut [u8], word: u64, bits: u64)
     requires { ⌜ (1 ≤ word) × (word ≤ 4096) × (4 * (word + 1) ≤ length (now file)) ⌝ }
-    ensures { λ _. ⌜ now (file .exit) ≡ splice (now (file .entry)) (fieldOffset word) (numeral 8 bits) ⌝ }
+    ensures { λ _. ⌜ Leaves (splice (now (file .entry)) (fieldOffset word) (numeral 8 bits)) (now (file .exit)) ⌝ }
 {
     words::put_u64(file, first_record_offset(WordNumber(word)), bits)
 }
@@ -31,7 +31,7 @@ pub(crate) fn put_field8(file: &mut [u8], word: u64, bits: u64)
 // Writes words 1 to 6: the code and the settings that come first.
 pub(crate) fn put_settings(file: &mut [u8], d: DescriptorNumbers)
     requires { ⌜ Storable d × (64 ≤ length (now file)) ⌝ }
-    ensures { λ _. ⌜ now (file .exit) ≡ writes (now (file .entry)) (settingWrites d) ⌝ }
+    ensures { λ _. ⌜ Leaves (writes (now (file .entry)) (settingWrites d)) (now (file .exit)) ⌝ }
 {
     let code = [0x32u8, 0x41u8, 0x20u8, 0x20u8];
     image::put(file, first_record_offset(WordNumber(1)), &code);
@@ -45,7 +45,7 @@ pub(crate) fn put_settings(file: &mut [u8], d: DescriptorNumbers)
 // Writes words 7 to 11: how far the file is filled.
 pub(crate) fn put_counts(file: &mut [u8], d: DescriptorNumbers)
     requires { ⌜ (d .nextword .0 < 2 ^ 32) × (64 ≤ length (now file)) ⌝ }
-    ensures { λ _. ⌜ now (file .exit) ≡ writes (now (file .entry)) (countWrites d) ⌝ }
+    ensures { λ _. ⌜ Leaves (writes (now (file .entry)) (countWrites d)) (now (file .exit)) ⌝ }
 {
     put_field8(file, 7, d.xnext.0);
     put_field8(file, 9, d.nextrec.0);
@@ -55,7 +55,7 @@ pub(crate) fn put_counts(file: &mut [u8], d: DescriptorNumbers)
 // Writes words 12 to 14, the growth, and zeros from there to the record's end.
 pub(crate) fn put_growth(file: &mut [u8], d: DescriptorNumbers)
     requires { ⌜ Storable d × (16 ≤ d .reclen) × (d .reclen ≤ 4096) × (4 * d .reclen ≤ length (now file)) ⌝ }
-    ensures { λ _. ⌜ now (file .exit) ≡ writes (now (file .entry)) (growthWrites d) ⌝ }
+    ensures { λ _. ⌜ Leaves (writes (now (file .entry)) (growthWrites d)) (now (file .exit)) ⌝ }
 {
     put_field4(file, 12, d.lex1);
     put_field4(file, 13, d.nex);

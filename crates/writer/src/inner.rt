@@ -21,13 +21,14 @@ use geometry::place_at;
 ghost use mathlib.Core.Path.{_≡_};
 ghost use Prim.Native.Nat.{_^_, _≤_};
 ghost use lib.ListN.{length};
+ghost use Rattle.outcome.specs.Outcome.{Answers, AnswersAndLeaves};
 ghost use Rattle.descriptor.specs.FirstRecord.{freeOf};
 ghost use Rattle.descriptor.specs.Bounds.{Admitted, Settled, Free};
 ghost use Rattle.writer.specs.Handed.{handedIn};
 ghost use Rattle.writer.specs.Placing.{full};
 ghost use Rattle.writer.specs.Rules.{appendRefusal};
 ghost use Rattle.writer.specs.Writing.{appended};
-ghost use Rattle.writer.specs.Answers.{acceptedFrom, appendedFrom, fileFrom};
+ghost use Rattle.writer.specs.Answers.{acceptedFrom, AppendsFrom};
 ghost use Rattle.writer.specs.Bounds.{Storing};
 
 // The answer of `append_from`: the refusal, 0 when accepted; the new number, 0 when refused; and the
@@ -52,7 +53,7 @@ fn append_refusal(
     values: &[u8],
 ) -> u32
     requires { ⌜ Settled d × Free d × (freeOf d ≤ 2 ^ 28) × (extend ≡ full d) ⌝ }
-    ensures { λ r. ⌜ r ≡ appendRefusal bytes d (handedIn version (now (index .entry)) (now (ids .entry)) (now (lengths .entry)) (now (sections .entry)) (now (values .entry))) ⌝ }
+    ensures { λ r. ⌜ Answers (appendRefusal bytes d (handedIn version (now (index .entry)) (now (ids .entry)) (now (lengths .entry)) (now (sections .entry)) (now (values .entry)))) r ⌝ }
 {
     let handed = handed_refusal(d, index, ids, lengths, sections, values);
     if handed != 0 {
@@ -86,8 +87,7 @@ fn store(
     values: &[u8],
 ) -> AppendedFrom
     requires { ⌜ Storing (length (now file)) d addresses (handedIn version (now index) (now ids) (now lengths) (now sections) (now values)) extend ⌝ }
-    ensures answer { λ r. ⌜ r ≡ acceptedFrom d addresses (handedIn version (now (index .entry)) (now (ids .entry)) (now (lengths .entry)) (now (sections .entry)) (now (values .entry))) ⌝ }
-    ensures bytes { λ r. ⌜ now (file .exit) ≡ appended (now (file .entry)) d addresses (handedIn version (now (index .entry)) (now (ids .entry)) (now (lengths .entry)) (now (sections .entry)) (now (values .entry))) ⌝ }
+    ensures { λ r. ⌜ AnswersAndLeaves (acceptedFrom d addresses (handedIn version (now (index .entry)) (now (ids .entry)) (now (lengths .entry)) (now (sections .entry)) (now (values .entry)))) (appended (now (file .entry)) d addresses (handedIn version (now (index .entry)) (now (ids .entry)) (now (lengths .entry)) (now (sections .entry)) (now (values .entry)))) r (now (file .exit)) ⌝ }
 {
     let number = d.xnext;
     let start = entry_start(d, extend);
@@ -128,8 +128,7 @@ pub fn append_from(
     values: &[u8],
 ) -> AppendedFrom
     requires { ⌜ Admitted (length (now file)) d addresses ⌝ }
-    ensures answer { λ r. ⌜ r ≡ appendedFrom (length (now (file .entry))) d addresses (handedIn version (now (index .entry)) (now (ids .entry)) (now (lengths .entry)) (now (sections .entry)) (now (values .entry))) ⌝ }
-    ensures bytes { λ r. ⌜ now (file .exit) ≡ fileFrom (now (file .entry)) d addresses (handedIn version (now (index .entry)) (now (ids .entry)) (now (lengths .entry)) (now (sections .entry)) (now (values .entry))) ⌝ }
+    ensures { λ r. ⌜ AppendsFrom (now (file .entry)) d addresses (handedIn version (now (index .entry)) (now (ids .entry)) (now (lengths .entry)) (now (sections .entry)) (now (values .entry))) r (now (file .exit)) ⌝ }
 {
     let extend = is_full(d);
     let refusal = append_refusal(

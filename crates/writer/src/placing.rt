@@ -16,6 +16,7 @@ use geometry::total;
 ghost use mathlib.Core.Path.{_≡_};
 ghost use mathlib.Core.Bool.{true};
 ghost use Prim.Native.Nat.{_+_, _^_, _≤_, _<_};
+ghost use Rattle.outcome.specs.Outcome.{Answers};
 ghost use Rattle.geometry.specs.Growth.{capacityOf};
 ghost use Rattle.descriptor.specs.FirstRecord.{freeOf, growthIn};
 ghost use Rattle.descriptor.specs.Bounds.{Settled, Free};
@@ -25,7 +26,7 @@ ghost use Rattle.writer.specs.Bounds.{Extensible};
 // Whether the extensions in use are full.
 pub(crate) fn is_full(d: DescriptorNumbers) -> bool
     requires { ⌜ Settled d × (1 ≤ d .xnext .0) ⌝ }
-    ensures { λ r. ⌜ r ≡ full d ⌝ }
+    ensures { λ r. ⌜ Answers (full d) r ⌝ }
 {
     entries_before(d.xnext) == total(Growth::new(d.lex1, d.gex), d.nex)
 }
@@ -33,7 +34,7 @@ pub(crate) fn is_full(d: DescriptorNumbers) -> bool
 // The first record of a new index area.
 pub(crate) fn new_area(d: DescriptorNumbers) -> RecordNumber
     requires { ⌜ Settled d × Free d × (freeOf d ≤ 2 ^ 28) ⌝ }
-    ensures { λ r. ⌜ r ≡ newArea d ⌝ }
+    ensures { λ r. ⌜ Answers (newArea d) r ⌝ }
 {
     RecordNumber(records_for(free_position(d), d.reclen) + 1)
 }
@@ -41,7 +42,7 @@ pub(crate) fn new_area(d: DescriptorNumbers) -> RecordNumber
 // The record after a new index area.
 pub(crate) fn after_new_area(d: DescriptorNumbers) -> RecordNumber
     requires { ⌜ Settled d × Free d × (freeOf d ≤ 2 ^ 28) × (d .nex < 16) × (capacityOf (growthIn d) (d .nex + 1) ≤ 16384) ⌝ }
-    ensures { λ r. ⌜ r ≡ afterNewArea d ⌝ }
+    ensures { λ r. ⌜ Answers (afterNewArea d) r ⌝ }
 {
     let entries = capacity(Growth::new(d.lex1, d.gex), ExtensionNumber(d.nex + 1));
     RecordNumber(new_area(d).0 + area_records(entries, d.lind, d.reclen))
@@ -51,7 +52,7 @@ pub(crate) fn after_new_area(d: DescriptorNumbers) -> RecordNumber
 // full, so that a new one is made.
 pub(crate) fn entry_start(d: DescriptorNumbers, extend: bool) -> u64
     requires { ⌜ Settled d × Free d × (freeOf d ≤ 2 ^ 28) × (extend ≡ full d) × Extensible d ⌝ }
-    ensures { λ r. ⌜ r ≡ entryStart d ⌝ }
+    ensures { λ r. ⌜ Answers (entryStart d) r ⌝ }
 {
     if extend {
         return position(d.reclen, after_new_area(d), WordNumber(1));
@@ -62,7 +63,7 @@ pub(crate) fn entry_start(d: DescriptorNumbers, extend: bool) -> u64
 // The extensions in use after an append.
 fn nex_after(d: DescriptorNumbers, extend: bool) -> u64
     requires { ⌜ (d .nex ≤ 16) × (extend ≡ full d) ⌝ }
-    ensures { λ r. ⌜ r ≡ nexAfter d ⌝ }
+    ensures { λ r. ⌜ Answers (nexAfter d) r ⌝ }
 {
     if extend {
         return d.nex + 1;
@@ -73,7 +74,7 @@ fn nex_after(d: DescriptorNumbers, extend: bool) -> u64
 // The numbers after an append whose entry ends at a position.
 pub(crate) fn numbers_after(d: DescriptorNumbers, extend: bool, end: u64) -> DescriptorNumbers
     requires { ⌜ Settled d × (d .xnext .0 < 2 ^ 63) × (extend ≡ full d) × (end < 2 ^ 32) ⌝ }
-    ensures { λ r. ⌜ r ≡ numbersAfter d end ⌝ }
+    ensures { λ r. ⌜ Answers (numbersAfter d end) r ⌝ }
 {
     let next = place_at(d.reclen, end);
     let nextrec = next.record;
@@ -100,7 +101,7 @@ pub(crate) fn addresses_after(
     extend: bool,
 ) -> [RecordNumber; 16]
     requires { ⌜ Settled d × Free d × (freeOf d ≤ 2 ^ 28) × (extend ≡ full d) × Extensible d ⌝ }
-    ensures { λ r. ⌜ r ≡ addressesAfter d addresses ⌝ }
+    ensures { λ r. ⌜ Answers (addressesAfter d addresses) r ⌝ }
 {
     if extend {
         let area = new_area(d);

@@ -18,6 +18,7 @@ ghost use mathlib.Core.Bool.{true, cond};
 ghost use Prim.Native.Nat.{_+_, _*_, _^_, _≤_, _<_};
 ghost use lib.ListN.{length};
 ghost use lib.Dec.{eqb};
+ghost use Rattle.outcome.specs.Outcome.{Answers, Leaves};
 ghost use Rattle.image.specs.Image.{splice};
 ghost use Rattle.image.specs.Writes.{writes};
 ghost use Rattle.words.specs.Word.{numeral};
@@ -43,7 +44,7 @@ pub struct Head {
 // The address of the data behind sections of so many words, 0 without data.
 fn adata_of(nsec: u64, section_words: u64, ldata: u64) -> u64
     requires { ⌜ (nsec ≤ 64) × («section_words» < 2 ^ 62) ⌝ }
-    ensures { λ r. ⌜ r ≡ cond (eqb ldata 0) 0 (firstContent nsec + «section_words») ⌝ }
+    ensures { λ r. ⌜ Answers (cond (eqb ldata 0) 0 (firstContent nsec + «section_words»)) r ⌝ }
 {
     if ldata == 0 {
         return 0;
@@ -60,7 +61,7 @@ pub(crate) fn head_of(
     number: EntryNumber,
 ) -> Head
     requires { ⌜ (nsec ≤ 64) × («section_words» < 2 ^ 62) × (ldata < 2 ^ 62) ⌝ }
-    ensures { λ r. ⌜ r ≡ headFrom version nsec «section_words» ldata number ⌝ }
+    ensures { λ r. ⌜ Answers (headFrom version nsec «section_words» ldata number) r ⌝ }
 {
     Head {
         version,
@@ -77,7 +78,7 @@ pub(crate) fn head_of(
 pub(crate) fn put_area(file: &mut [u8], d: DescriptorNumbers, extend: bool, start: u64)
     requires { ⌜ Settled d × Free d × (freeOf d ≤ 2 ^ 28) × (extend ≡ full d) × Extensible d × (start ≡ entryStart d)
         × (start < 2 ^ 32) × (4 * start ≤ length (now file)) × (4 * d .reclen ≤ length (now file)) ⌝ }
-    ensures { λ _. ⌜ now (file .exit) ≡ areaWritten (now (file .entry)) d ⌝ }
+    ensures { λ _. ⌜ Leaves (areaWritten (now (file .entry)) d) (now (file .exit)) ⌝ }
 {
     if extend {
         let free = free_position(d);
@@ -90,7 +91,7 @@ pub(crate) fn put_area(file: &mut [u8], d: DescriptorNumbers, extend: bool, star
 // Writes the Integer*8 at a word of the entry and the next.
 fn put_word8(file: &mut [u8], start: u64, address: u64, bits: u64)
     requires { ⌜ (1 ≤ address) × (start + address < 2 ^ 32) × (4 * (start + address + 1) ≤ length (now file)) ⌝ }
-    ensures { λ _. ⌜ now (file .exit) ≡ splice (now (file .entry)) (wordOffset start address) (numeral 8 bits) ⌝ }
+    ensures { λ _. ⌜ Leaves (splice (now (file .entry)) (wordOffset start address) (numeral 8 bits)) (now (file .exit)) ⌝ }
 {
     words::put_u64(
         file,
@@ -102,7 +103,7 @@ fn put_word8(file: &mut [u8], start: u64, address: u64, bits: u64)
 // Writes words 1 to 11 of the entry.
 pub(crate) fn put_head(file: &mut [u8], start: u64, head: Head)
     requires { ⌜ (start < 2 ^ 31) × (4 * (start + 11) ≤ length (now file)) × (head .nsec ≤ 64) ⌝ }
-    ensures { λ _. ⌜ now (file .exit) ≡ writes (now (file .entry)) (headWrites start head) ⌝ }
+    ensures { λ _. ⌜ Leaves (writes (now (file .entry)) (headWrites start head)) (now (file .exit)) ⌝ }
 {
     let code = [0x32u8, 0x20u8, 0x20u8, 0x20u8];
     image::put(
@@ -130,7 +131,7 @@ pub(crate) fn put_head(file: &mut [u8], start: u64, head: Head)
 pub(crate) fn put_tables(file: &mut [u8], start: u64, ids: &[i32], lengths: &[i64])
     requires { ⌜ (start < 2 ^ 31) × (length (now ids) ≤ 64) × (length (now lengths) ≡ length (now ids)) × (4 * (start + 11 + 5 * length (now ids)) ≤ length (now file))
         × (positive (now lengths) (length (now lengths)) ≡ true) × (sumOf (now lengths) < 2 ^ 62) ⌝ }
-    ensures { λ _. ⌜ now (file .exit) ≡ writes (now (file .entry)) (tableWrites start (now (ids .entry)) (now (lengths .entry))) ⌝ }
+    ensures { λ _. ⌜ Leaves (writes (now (file .entry)) (tableWrites start (now (ids .entry)) (now (lengths .entry)))) (now (file .exit)) ⌝ }
 {
     let nsec = ids.len() as u64;
     put_identifiers(file, entry_position(start, EntryAddress(12)), ids);
@@ -150,7 +151,7 @@ pub(crate) fn put_tables(file: &mut [u8], start: u64, ids: &[i32], lengths: &[i6
 // Writes the sections and the data of the entry, from a word of it on.
 pub(crate) fn put_content(file: &mut [u8], start: u64, first: u64, sections: &[u8], values: &[u8])
     requires { ⌜ (1 ≤ first) × (start + first < 2 ^ 32) × (wordOffset start first + length (now sections) + length (now values) ≤ length (now file)) ⌝ }
-    ensures { λ _. ⌜ now (file .exit) ≡ splice (splice (now (file .entry)) (wordOffset start first) (now (sections .entry))) (wordOffset start first + length (now (sections .entry))) (now (values .entry)) ⌝ }
+    ensures { λ _. ⌜ Leaves (splice (splice (now (file .entry)) (wordOffset start first) (now (sections .entry))) (wordOffset start first + length (now (sections .entry))) (now (values .entry))) (now (file .exit)) ⌝ }
 {
     let at = byte_offset(entry_position(start, EntryAddress(first)));
     image::put(file, at, sections);
@@ -160,7 +161,7 @@ pub(crate) fn put_content(file: &mut [u8], start: u64, first: u64, sections: &[u
 // Writes the index of the entry: where it starts, and the application's words.
 pub(crate) fn put_slot(file: &mut [u8], slot: u64, place: Place, index: &[u8])
     requires { ⌜ (slot < 2 ^ 32) × (place .word .0 < 2 ^ 32) × (4 * (slot + 3) + length (now index) ≤ length (now file)) ⌝ }
-    ensures { λ _. ⌜ now (file .exit) ≡ writes (now (file .entry)) (slotWrites slot place (now (index .entry))) ⌝ }
+    ensures { λ _. ⌜ Leaves (writes (now (file .entry)) (slotWrites slot place (now (index .entry)))) (now (file .exit)) ⌝ }
 {
     words::put_u64(file, byte_offset(slot), place.record.0);
     words::put_u32(file, byte_offset(slot + 2), place.word.0 as u32);

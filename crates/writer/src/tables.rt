@@ -4,6 +4,7 @@ ghost use mathlib.Core.Path.{_≡_};
 ghost use mathlib.Core.Bool.{true};
 ghost use Prim.Native.Nat.{_+_, _*_, _^_, _≤_, _<_};
 ghost use lib.ListN.{length};
+ghost use Rattle.outcome.specs.Outcome.{Leaves};
 ghost use Rattle.image.specs.Image.{splice};
 ghost use Rattle.geometry.specs.Units.{offsetOf};
 ghost use Rattle.writer.specs.Handed.{sumOf, positive};
@@ -12,7 +13,7 @@ ghost use Rattle.writer.specs.Writing.{identifierBytes, lengthBytes, add
 // Writes identifiers one after another from a position on.
 pub(crate) fn put_identifiers(file: &mut [u8], position: u64, ids: &[i32])
     requires { ⌜ (position < 2 ^ 32) × (length (now ids) ≤ 64) × (4 * (position + length (now ids)) ≤ length (now file)) ⌝ }
-    ensures { λ _. ⌜ now (file .exit) ≡ splice (now (file .entry)) (offsetOf position) (identifierBytes (now (ids .entry))) ⌝ }
+    ensures { λ _. ⌜ Leaves (splice (now (file .entry)) (offsetOf position) (identifierBytes (now (ids .entry)))) (now (file .exit)) ⌝ }
 {
     let mut done = 0;
     while done < ids.len() {
@@ -25,7 +26,7 @@ pub(crate) fn put_identifiers(file: &mut [u8], position: u64, ids: &[i32])
 // Writes lengths one after another from a position on.
 pub(crate) fn put_lengths(file: &mut [u8], position: u64, lengths: &[i64])
     requires { ⌜ (position < 2 ^ 32) × (length (now lengths) ≤ 64) × (4 * (position + 2 * length (now lengths)) ≤ length (now file)) ⌝ }
-    ensures { λ _. ⌜ now (file .exit) ≡ splice (now (file .entry)) (offsetOf position) (lengthBytes (now (lengths .entry))) ⌝ }
+    ensures { λ _. ⌜ Leaves (splice (now (file .entry)) (offsetOf position) (lengthBytes (now (lengths .entry)))) (now (file .exit)) ⌝ }
 {
     let mut done = 0;
     while done < lengths.len() {
@@ -40,7 +41,7 @@ pub(crate) fn put_lengths(file: &mut [u8], position: u64, lengths: &[i64])
 pub(crate) fn put_addresses(file: &mut [u8], position: u64, first: u64, lengths: &[i64])
     requires { ⌜ (position < 2 ^ 32) × (length (now lengths) ≤ 64) × (4 * (position + 2 * length (now lengths)) ≤ length (now file))
         × (positive (now lengths) (length (now lengths)) ≡ true) × (first + sumOf (now lengths) < 2 ^ 63) ⌝ }
-    ensures { λ _. ⌜ now (file .exit) ≡ splice (now (file .entry)) (offsetOf position) (addressBytes first (now (lengths .entry))) ⌝ }
+    ensures { λ _. ⌜ Leaves (splice (now (file .entry)) (offsetOf position) (addressBytes first (now (lengths .entry)))) (now (file .exit)) ⌝ }
 {
     let mut address = first;
     let mut done = 0;

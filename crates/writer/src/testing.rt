@@ -11,6 +11,7 @@ ghost use mathlib.Core.Bool.{true};
 ghost use Prim.Native.Nat.{_^_, _≤_, _<_};
 ghost use lib.ListN.{length};
 ghost use lib.Dec.{eqb};
+ghost use Rattle.outcome.specs.Outcome.{Answers};
 ghost use Rattle.geometry.specs.Units.{offsetOf};
 ghost use Rattle.descriptor.specs.FirstRecord.{freeOf};
 ghost use Rattle.descriptor.specs.Bounds.{Settled, Free};
@@ -22,7 +23,7 @@ ghost use Rattle.writer.specs.Bounds.{Extensible};
 // Whether an identifier is none of the first `count`.
 fn is_absent(ids: &[i32], identifier: i32, count: usize) -> bool
     requires { ⌜ count ≤ length (now ids) ⌝ }
-    ensures { λ r. ⌜ r ≡ absent (now (ids .entry)) identifier count ⌝ }
+    ensures { λ r. ⌜ Answers (absent (now (ids .entry)) identifier count) r ⌝ }
 {
     let mut passed = 0;
     while passed < count {
@@ -36,7 +37,7 @@ fn is_absent(ids: &[i32], identifier: i32, count: usize) -> bool
 
 // Whether no two identifiers are equal.
 fn are_distinct(ids: &[i32]) -> bool
-    ensures { λ r. ⌜ r ≡ distinct (now (ids .entry)) (length (now (ids .entry))) ⌝ }
+    ensures { λ r. ⌜ Answers (distinct (now (ids .entry)) (length (now (ids .entry)))) r ⌝ }
 {
     let mut passed = 0;
     while passed < ids.len() {
@@ -51,7 +52,7 @@ fn are_distinct(ids: &[i32]) -> bool
 
 // Whether each length is 1 or more.
 fn are_positive(lengths: &[i64]) -> bool
-    ensures { λ r. ⌜ r ≡ positive (now (lengths .entry)) (length (now (lengths .entry))) ⌝ }
+    ensures { λ r. ⌜ Answers (positive (now (lengths .entry)) (length (now (lengths .entry)))) r ⌝ }
 {
     let mut passed = 0;
     while passed < lengths.len() {
@@ -67,7 +68,7 @@ fn are_positive(lengths: &[i64]) -> bool
 // wrap: what is left of the bytes is lessened by each length in turn.
 fn make_up(lengths: &[i64], bytes: usize) -> bool
     requires { ⌜ positive (now lengths) (length (now lengths)) ≡ true ⌝ }
-    ensures { λ r. ⌜ r ≡ eqb bytes (offsetOf (sumOf (now (lengths .entry)))) ⌝ }
+    ensures { λ r. ⌜ Answers (eqb bytes (offsetOf (sumOf (now (lengths .entry))))) r ⌝ }
 {
     if bytes % 4 != 0 {
         return false;
@@ -95,7 +96,7 @@ pub(crate) fn handed_refusal(
     values: &[u8],
 ) -> u32
     requires { ⌜ Settled d ⌝ }
-    ensures { λ r. ⌜ r ≡ handedRefusal d (now (index .entry)) (now (ids .entry)) (now (lengths .entry)) (now (sections .entry)) (now (values .entry)) ⌝ }
+    ensures { λ r. ⌜ Answers (handedRefusal d (now (index .entry)) (now (ids .entry)) (now (lengths .entry)) (now (sections .entry)) (now (values .entry))) r ⌝ }
 {
     if index.len() != byte_offset(d.lind - 3) {
         return 21;
@@ -124,7 +125,7 @@ pub(crate) fn handed_refusal(
 // Rule 23, whether another extension may be made where one is needed: 0 or 23.
 pub(crate) fn extension_refusal(d: DescriptorNumbers, extend: bool) -> u32
     requires { ⌜ Settled d × (extend ≡ full d) ⌝ }
-    ensures { λ r. ⌜ r ≡ extensionRefusal d ⌝ }
+    ensures { λ r. ⌜ Answers (extensionRefusal d) r ⌝ }
 {
     if !extend {
         return 0;
@@ -142,7 +143,7 @@ pub(crate) fn extension_refusal(d: DescriptorNumbers, extend: bool) -> u32
 // Rule 24, whether an entry of `nword` words ends within the buffer: 0 or 24.
 pub(crate) fn space_refusal(bytes: u64, d: DescriptorNumbers, extend: bool, nword: u64) -> u32
     requires { ⌜ Settled d × Free d × (freeOf d ≤ 2 ^ 28) × (extend ≡ full d) × Extensible d × (nword < 2 ^ 63) ⌝ }
-    ensures { λ r. ⌜ r ≡ spaceRefusal bytes d nword ⌝ }
+    ensures { λ r. ⌜ Answers (spaceRefusal bytes d nword) r ⌝ }
 {
     if bytes / 4 < entry_start(d, extend) + nword {
         return 24;

@@ -1,0 +1,2 @@
+-- The laws of `outcome`.
+pub mod Determined

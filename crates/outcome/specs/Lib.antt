@@ -1,0 +1,2 @@
+-- The relations that contracts are made of.
+pub mod Outcome

@@ -1,0 +1,2 @@
+-- What the contract of `witness` cites.
+pub mod Twice
