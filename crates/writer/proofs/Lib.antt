@@ -10,3 +10,4 @@ pub mod ReadBack
 pub mod Stored
 pub mod Reopened
 pub mod Returned
+pub mod CreatedBack

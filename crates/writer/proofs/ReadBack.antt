@@ -113,7 +113,7 @@ module _ (bytes : ℕ) (d : DescriptorNumbers) (addresses : List RecordNumber) (
       omega (arith, mul-le-mul-right (d .reclen) some)
 
 -- the settings that rules 5, 6 and 7 ask for, from a file that passed them
-apt : (bytes : ℕ) (d : DescriptorNumbers) → settingRefusal bytes d ≡ 0 → Apt d
+pub apt : (bytes : ℕ) (d : DescriptorNumbers) → settingRefusal bytes d ≡ 0 → Apt d
 apt bytes d e =
     let a = setting-rows bytes d e in
     record { kind = a .1 .1 .1 .0; vind = a .1 .1 .1 .1 .0; flags = a .1 .1 .1 .1 .1 .1 .0 }
