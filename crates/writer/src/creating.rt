@@ -8,7 +8,7 @@ use descriptor::setting_refusal;
 ghost use Prim.Native.Nat.{_*_, _≤_};
 ghost use lib.ListN.{length};
 ghost use Rattle.outcome.specs.Outcome.{Answers, Leaves};
-ghost use Rattle.writer.specs.Creation.{firstWritten, Creates};
+ghost use Rattle.writer.specs.Creation.{firstWritten, creationRefusal, Creates};
 ghost use Rattle.writer.specs.Bounds.{Storable};
 
 // The refusal of a creation with these numbers: 1, then 3 to 8.
