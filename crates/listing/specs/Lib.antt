@@ -1,0 +1,3 @@
+-- What the contracts of `listing` cite.
+pub mod Text
+pub mod Listing
