@@ -1,1 +1,4 @@
--- none
+-- The laws of `listing`.
+pub mod Decimal
+pub mod Lines
+pub mod Room
