@@ -1,4 +1,5 @@
 -- The laws of `listing`.
 pub mod Decimal
 pub mod Lines
+pub mod Listings
 pub mod Room

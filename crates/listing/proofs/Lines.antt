@@ -1,5 +1,5 @@
 -- Laws of the rows: how long each is, and the list of them one row after the other. Assumes nothing.
-use Prim.Native.Nat.{ℕ, zero, suc, _+_, _-_, _*_, _≤_}
+use Prim.Native.Nat.{ℕ, zero, suc, _+_, _-_, _*_, _≤_, _<_}
 use mathlib.Core.Path.{_≡_, refl, ap, _∙_}
 use mathlib.Core.Bool.{true, false}
 use mathlib.Core.List.{List, [], _∷_, _++_}
@@ -89,10 +89,17 @@ module _ (file : List ℕ) (d : DescriptorNumbers) (addresses : List RecordNumbe
   rest-next k zero x h q = absurd (omega arith)
   rest-next k (suc left) x h q = let p : suc left - 1 ≡ left = omega arith in rw (p, q)
 
-  -- one row more of their length
+  -- one row more of their length, and a bound of it
   pub length-next : (k left : ℕ) (x : Entered) → 1 ≤ left → x ≡ enteredOf file d addresses (record { 0 = k })
       → length (rest k left) ≡ length (rowOf k x) + length (rest (k + 1) (left - 1))
   length-next k left x h q = ap length (rest-next k left x h q) ∙ length-append (rowOf k x) (rest (k + 1) (left - 1))
+
+  pub length-rest : (most k left : ℕ) → ((i : ℕ) → k ≤ i → i < k + left → length (rowOf i (enteredOf file d addresses (record { 0 = i }))) ≤ most) → length (rest k left) ≤ most * left
+  length-rest most k zero h = omega (arith, ap length (rest-none k))
+  length-rest most k (suc left) h =
+      let q : suc left - 1 ≡ left = omega arith in
+      let later = length-rest most (k + 1) left (λ i l m. h i (omega arith) (omega arith)) in
+      omega (arith, later, h k (omega arith) (omega arith), rw q at (length-next k (suc left) (enteredOf file d addresses (record { 0 = k })) (omega arith) refl))
 
   -- one row more written
   pub laid-next : (k left : ℕ) (x : Entered) (out : List ℕ) (at : ℕ) (row-out : List ℕ) (behind : ℕ) → 1 ≤ left → x ≡ enteredOf file d addresses (record { 0 = k })

@@ -1,18 +1,15 @@
-use Prim.Native.Nat.{ℕ, _+_, _*_, _-_, _≤_}
+-- `listing::listing::put_rows` meets its contract. The loop's invariant: with the rows that are left written from `next` on, the buffer holds all rows. Assumes nothing.
+use Prim.Native.Nat.{_+_, _-_, _≤_}
 use mathlib.Core.Path.{_≡_, refl, sym, ap, _∙_}
 use native.Mathlib.Omega.{arith}
 use borrow.Author.Needs.{needs}
+use denote.Ref.{now}
 use lib.ListN.{length}
 use Rattle.image.specs.Image.{splice}
 use Rattle.image.proofs.Splice.{splice-nil}
 use Rattle.listing.proofs.Lines.{rest, rest-none, length-next, laid-next}
 use Rattle.listing.proofs.listing.put_rows.Statement.{statement}
 use Rattle.listing.proofs.listing.put_rows.Tie as tie
-use Rattle.listing.proofs.listing.put_rows.Reads as reads
-use Rattle.listing.proofs.listing.put_rows.Lts as lts
-use Rattle.entry.proofs.inner.enter.Reads as enter-reads
-use Rattle.geometry.proofs.entries_before.Reads as entries-before-reads
-use Rattle.listing.proofs.rows.put_row.Reads as put-row-reads
 
 abbrev Inv-loop : tie.InvT-loop
 Inv-loop file d addresses out₀ at entries next₀ passed₀ out next passed =
@@ -23,45 +20,60 @@ Inv-loop file d addresses out₀ at entries next₀ passed₀ out next passed =
 abbrev μ-loop : tie.MeasureT-loop
 μ-loop file d addresses out₀ at entries next₀ passed₀ out next passed = entries - passed
 
--- src/listing.rt:49:9
 entries-before-requires : tie.Need-entries-before-requires Inv-loop μ-loop
-entries-before-requires c κs = ?
+entries-before-requires c κs = c .before .before .pre .0 .counted
 
--- src/listing.rt:52:5
 loop-holds : tie.Need-loop-holds Inv-loop μ-loop
-loop-holds c = ?
+loop-holds c = let q : c .entries-before .result - 0 ≡ c .entries-before .result = omega arith in (omega arith, refl, rw q, rw q)
 
--- src/listing.rt:53:34
 add-t12 : tie.Need-add-t12 Inv-loop μ-loop
-add-t12 c = ?
+add-t12 c = omega arith
 
--- src/listing.rt:54:13
 enter-requires : tie.Need-enter-requires Inv-loop μ-loop
-enter-requires c κs = ?
+enter-requires c κs = c .before .before .before .before .before .pre .0
 
--- src/listing.rt:55:9
 put-row-requires : tie.Need-put-row-requires Inv-loop μ-loop
-put-row-requires c κs = ?
+put-row-requires c κs =
+    let s = c .before .before .before .before .before .before .before in
+    let l = c .before .before .before .loop in
+    let all = c .before .before .before .before .entries-before in
+    let x = c .before .enter in
+    let next = length-next (s .args .file .now) (s .args .d) (s .args .addresses) (l .passed + 1) (all .result - l .passed) (x .result) (omega arith) (x .ensures) in
+    omega (arith, next, l .inv .1, l .inv .2, rw (← (all .ensures)) at (s .pre .1))
 
--- src/listing.rt:56:9
 add-passed : tie.Need-add-passed Inv-loop μ-loop
-add-passed c = ?
+add-passed c = omega arith
 
--- src/listing.rt:52:5
 loop-less : tie.Need-loop-less Inv-loop μ-loop
-loop-less c = ?
+loop-less c = omega arith
 
--- src/listing.rt:52:5
 loop-again : tie.Need-loop-again Inv-loop μ-loop
-loop-again c = ?
+loop-again c =
+    let s = c .before .before .before .before .before .before .before .before .before .before .args in
+    let l = c .before .before .before .before .before .before .loop in
+    let all = c .before .before .before .before .before .before .before .entries-before .result in
+    let x = c .before .before .before .before .enter in
+    let row = c .before .before .put-row in
+    let q : all - (l .passed + 1) ≡ all - l .passed - 1 = omega arith in
+    let next = length-next (s .file .now) (s .d) (s .addresses) (l .passed + 1) (all - l .passed) (x .result) (omega arith) (x .ensures) in (
+      omega arith,
+      omega arith,
+      rw q (omega (arith, next, l .inv .2, row .ensures .0)),
+      rw q (laid-next (s .file .now) (s .d) (s .addresses) (l .passed + 1) (all - l .passed) (x .result) (l .out) (l .next) (row .last .0) (row .result) (omega arith) (x .ensures)
+          (row .ensures .1) (row .ensures .0) ∙ l .inv .3),
+    )
 
--- src/listing.rt:39:1
 same-length : tie.Need-same-length Inv-loop μ-loop
-same-length c = ?
+same-length c = omega arith
 
--- src/listing.rt:39:1
 returns : tie.Need-returns Inv-loop μ-loop
-returns c = ?
+returns c =
+    let s = c .before .before .before .before .before .args in
+    let l = c .before .loop in
+    let all = c .before .before .entries-before in
+    let q : all .result - l .passed ≡ 0 = omega arith in
+    let end = rw (q, rest-none (s .file .now) (s .d) (s .addresses) (l .passed + 1), splice-nil) at (l .inv .3) in
+    rw (← (all .ensures)) end
 
 pub put-rows-spec : {M : Type 1} → statement M
 put-rows-spec =

@@ -1,5 +1,6 @@
-use Prim.Native.Nat.{ℕ, _+_, _*_, _-_, _≤_}
-use mathlib.Core.Path.{_≡_, refl, sym, ap, _∙_}
+-- `listing::listing::rows_length` meets its contract. The loop's invariant: the sum and the length of the rows that are left make up the length of all. Assumes nothing.
+use Prim.Native.Nat.{_+_, _*_, _-_, _≤_}
+use mathlib.Core.Path.{_≡_, ap}
 use native.Mathlib.Omega.{arith}
 use borrow.Author.Needs.{needs}
 use lib.ListN.{length}
@@ -7,11 +8,6 @@ use Rattle.listing.proofs.Lines.{row-short, rest, rest-none, length-nex
 use Rattle.listing.proofs.Room.{entries-room}
 use Rattle.listing.proofs.listing.rows_length.Statement.{statement}
 use Rattle.listing.proofs.listing.rows_length.Tie as tie
-use Rattle.listing.proofs.listing.rows_length.Reads as reads
-use Rattle.listing.proofs.listing.rows_length.Lts as lts
-use Rattle.entry.proofs.inner.enter.Reads as enter-reads
-use Rattle.geometry.proofs.entries_before.Reads as entries-before-reads
-use Rattle.listing.proofs.rows.row_length.Reads as row-length-reads
 
 abbrev Inv-loop : tie.InvT-loop
 Inv-loop file d addresses entries sum₀ passed₀ sum passed =
@@ -20,45 +16,51 @@ Inv-loop file d addresses entries sum₀ passed₀ sum passed =
 abbrev μ-loop : tie.MeasureT-loop
 μ-loop file d addresses entries sum₀ passed₀ sum passed = entries - passed
 
--- src/listing.rt:26:9
 entries-before-requires : tie.Need-entries-before-requires Inv-loop μ-loop
-entries-before-requires c κs = ?
+entries-before-requires c κs = c .before .pre .counted
 
--- src/listing.rt:29:5
 loop-holds : tie.Need-loop-holds Inv-loop μ-loop
-loop-holds c = ?
+loop-holds c = let q : c .entries-before .result - 0 ≡ c .entries-before .result = omega arith in (omega arith, omega arith, rw q (omega arith))
 
--- src/listing.rt:30:34
 add-t10 : tie.Need-add-t10 Inv-loop μ-loop
-add-t10 c = ?
+add-t10 c = omega arith
 
--- src/listing.rt:31:13
 enter-requires : tie.Need-enter-requires Inv-loop μ-loop
-enter-requires c κs = ?
+enter-requires c κs = c .before .before .before .before .pre
 
--- src/listing.rt:32:16
 row-length-requires : tie.Need-row-length-requires Inv-loop μ-loop
-row-length-requires c κs = ?
+row-length-requires c κs = search needs
 
--- src/listing.rt:32:9
 add-sum : tie.Need-add-sum Inv-loop μ-loop
-add-sum c = ?
+add-sum c =
+    let s = c .before .before .before .before .before .before in
+    let row = row-short (c .before .before .before .loop .passed + 1) (c .before .enter .result) in
+    omega (arith, row, c .row-length .ensures, entries-room (length (s .args .file .now)) (s .args .d) (s .args .addresses) (s .pre), s .pre .lent .high)
 
--- src/listing.rt:33:9
 add-passed : tie.Need-add-passed Inv-loop μ-loop
-add-passed c = ?
+add-passed c = omega arith
 
--- src/listing.rt:29:5
 loop-less : tie.Need-loop-less Inv-loop μ-loop
-loop-less c = ?
+loop-less c = omega arith
 
--- src/listing.rt:29:5
 loop-again : tie.Need-loop-again Inv-loop μ-loop
-loop-again c = ?
+loop-again c =
+    let s = c .before .before .before .before .before .before .args in
+    let l = c .before .before .before .loop in
+    let all = c .before .before .before .before .entries-before .result in
+    let x = c .before .enter in
+    let q : all - (l .passed + 1) ≡ all - l .passed - 1 = omega arith in
+    let next = length-next (s .file .now) (s .d) (s .addresses) (l .passed + 1) (all - l .passed) (x .result) (omega arith) (x .ensures) in
+    (omega arith, omega (arith, row-short (l .passed + 1) (x .result), c .row-length .ensures), rw q (omega (arith, next, l .inv .2, c .row-length .ensures)))
 
--- src/listing.rt:22:1
 returns : tie.Need-returns Inv-loop μ-loop
-returns c = ?
+returns c =
+    let s = c .before .before .before .before .args in
+    let l = c .before .loop in
+    let all = c .before .before .entries-before in
+    let q : all .result - l .passed ≡ 0 = omega arith in
+    let none = ap length (rest-none (s .file .now) (s .d) (s .addresses) (l .passed + 1)) in
+    rw (← (all .ensures)) (omega (arith, none, rw q at (l .inv .2)))
 
 pub rows-length-spec : {M : Type 1} → statement M
 rows-length-spec =
