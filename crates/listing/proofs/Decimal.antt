@@ -37,9 +37,12 @@ fewest-digits (suc j) (suc (suc k)) n h f =
 -- a number of 64 bits has 20 digits at most
 few : (k n : ℕ) → n < 2 ^ 64 → Fewest 10 1 n k → k ≤ 20
 few k n h f =
-    elim (decLe k 20) [ yes g ↦ g | no g ↦
-    let more : 20 ≤ k - 1 = omega (arith, lt-of-not-le g) in
-    absurd (omega (arith, f .2 (omega arith), pow-le-pow-right {n = 10} (omega arith) {i = 20} {j = k - 1} more)) ]
+    elim (decLe k 20) [
+      | yes g ↦ g
+      | no g ↦
+          let more : 20 ≤ k - 1 = omega (arith, lt-of-not-le g) in
+          absurd (omega (arith, f .2 (omega arith), pow-le-pow-right {n = 10} (omega arith) {i = 20} {j = k - 1} more))
+    ]
 
 pub decimal-digits : (k n : ℕ) → n < 2 ^ 64 → Fewest 10 1 n k → digits 10 k n ≡ decimalOf n
 unfolding decimalOf

@@ -49,8 +49,16 @@ pub row-short : (e : ℕ) (x : Entered) → length (rowOf e x) ≤ 126
 unfolding rowOf
 row-short e x =
     either-length (eqb (x .refusal) 0) (openedRow e x) (refusedRow e (x .refusal)) 126
-    (omega (arith, length-opened e x, field-short e space, field-short (x .place .«record» .0) space, field-short (x .place .word .0) space,
-    field-short (x .nword) space, field-short (x .nsec) space, field-short (x .array .words) newline))
+    (omega (
+      arith,
+      length-opened e x,
+      field-short e space,
+      field-short (x .place .«record» .0) space,
+      field-short (x .place .word .0) space,
+      field-short (x .nword) space,
+      field-short (x .nsec) space,
+      field-short (x .array .words) newline,
+    ))
     (omega (arith, length-refused-row e (x .refusal), length-refused (x .refusal), length-decimal e, field-short (x .refusal) newline))
 
 -- six fields, each written where the one before it ends, are the row of an entry that opened

@@ -1,30 +1,37 @@
+-- `listing::listing::list_input` meets its contract: what is written fits, by `room`. Assumes nothing.
+use Prim.Native.Nat.{_≤_}
+use mathlib.Core.Path.{sym, _∙_}
+use native.Mathlib.Omega.{arith}
+use denote.Ref.{now}
+use lib.ListN.{length}
+use Rattle.listing.specs.Listing.{listingOf, overLimit}
+use Rattle.listing.proofs.Listings.{fit-count, fit-filled, output-within, output-over}
+use Rattle.listing.proofs.Room.{length-over, room}
 use borrow.Author.Needs.{needs}
 use Rattle.listing.proofs.listing.list_input.Statement.{statement}
 use Rattle.listing.proofs.listing.list_input.Tie as tie
-use Rattle.listing.proofs.listing.list_input.Reads as reads
-use Rattle.listing.proofs.listing.list_input.Lts as lts
-use Rattle.image.proofs.put.Reads as put-reads
-use Rattle.listing.proofs.listing.list_file.Reads as list-file-reads
 
--- src/listing.rt:115:28
 slice-aggregate-put : tie.Need-slice-aggregate-put
 slice-aggregate-put c = search needs
 
--- src/listing.rt:115:9
 put-requires : tie.Need-put-requires
 put-requires c κs = search needs
 
--- src/listing.rt:116:9
 returns : tie.Need-returns
-returns c = ?
+unfolding overLimit
+returns c =
+    let q = output-over (now (c .before .before .before .before .before .args .input)) (c .before .before .before .if1 .taken) in
+    (rw q (sym length-over), rw q (c .put .ensures))
 
--- src/listing.rt:118:5
 list-file-requires : tie.Need-list-file-requires
 list-file-requires c κs = search needs
 
--- src/listing.rt:110:1
 returns-2 : tie.Need-returns-2
-returns-2 c = ?
+returns-2 c =
+    let a = c .before .before .before .before .args in
+    let q = output-within (now (a .input)) (c .before .before .if1 .left) in
+    let fits : length (listingOf (now (a .input))) ≤ length (now (a .out)) = omega (arith, rw q at (room (now (a .input)))) in
+    (rw q (c .list-file .ensures .0 ∙ fit-count (listingOf (now (a .input))) (now (a .out)) fits), rw q (c .list-file .ensures .1 ∙ fit-filled (listingOf (now (a .input))) (now (a .out)) fits))
 
 pub list-input-spec : {M : Type 1} → statement M
 list-input-spec =

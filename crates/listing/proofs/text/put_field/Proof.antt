@@ -33,10 +33,11 @@ returns : tie.Need-returns
 unfolding fieldOf
 returns c =
     let a = c .before .before .before .before .before .before .before .before .before .before .args in
-    let digits = c .before .before .before .before .before .before .before .put-decimal in
-    (omega (arith, length-field (a .n) (a .end)),
-    (rw (digits .ensures .1) at (c .before .before .put .ensures))
-    ∙ splice-adjacent (now (a .out)) (a .at) (decimalOf (a .n)) (digits .result) (a .end ∷ []) (digits .ensures .0))
+    let digits = c .before .before .before .before .before .before .before .put-decimal in (
+      omega (arith, length-field (a .n) (a .end)),
+      (rw (digits .ensures .1) at (c .before .before .put .ensures))
+          ∙ splice-adjacent (now (a .out)) (a .at) (decimalOf (a .n)) (digits .result) (a .end ∷ []) (digits .ensures .0),
+    )
 
 pub put-field-spec : {M : Type 1} → statement M
 put-field-spec =
