@@ -1,4 +1,5 @@
-// The listing program: it reads a file image on standard input, and writes its listing to standard output.
+// The listing program: it reads a file on standard input and writes its listing to standard output.
+// What cannot be read or written is told on standard error.
 use libc::STDIN_FILENO;
 use libc::STDOUT_FILENO;
 
@@ -8,19 +9,23 @@ fn has_ended() -> bool {
     libc::read(STDIN_FILENO, &mut byte) == 0
 }
 
-// Lists an input of which at most 65,537 bytes are looked at: one more than a listing is made of.
+// Writes what is printed of an input, and answers whether all of it was written.
+fn write_listing(input: &[u8]) -> bool {
+    let mut output = [0u8; 196608];
+    let count = listing::list_input(input, &mut output);
+    io::write_all(STDOUT_FILENO, &output[..count])
+}
+
+// Reads one byte more than an input may have, so that a longer one is known, and lists it. A read that
+// fails is not the end of the input, and nothing is listed then.
 fn main() {
     let mut input = [0u8; 65537];
     let count = io::read_full(STDIN_FILENO, &mut input);
-    if count < 65537 {
-        if !has_ended() {
-            os::fail(b"standard input");
-            return;
-        }
+    if count < 65537 && !has_ended() {
+        os::fail(b"standard input");
+        return;
     }
-    let mut output = [0u8; 196608];
-    let length = listing::list_input(&input[..count], &mut output);
-    if !io::write_all(STDOUT_FILENO, &output[..length]) {
+    if !write_listing(&input[..count]) {
         os::fail(b"standard output");
     }
 }

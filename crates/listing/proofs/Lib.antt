@@ -3,3 +3,4 @@ pub mod Decimal
 pub mod Lines
 pub mod Listings
 pub mod Room
+pub mod Examples

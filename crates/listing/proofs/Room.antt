@@ -1,6 +1,6 @@
 -- How long a listing can be: a file has few entries for its bytes, and the output of any input fits the program's buffer. Assumes nothing.
 use Prim.Native.Nat.{ℕ, zero, suc, _+_, _*_, _-_, _/_, _^_, _≤_, _<_}
-use mathlib.Core.Path.{_≡_, refl, sym, _∙_}
+use mathlib.Core.Path.{_≡_, refl, sym, ap, _∙_}
 use mathlib.Core.Bool.{Bool, true, false}
 use mathlib.Core.List.{List}
 use native.Mathlib.Omega.{arith}
@@ -8,7 +8,10 @@ use native.Mathlib.Nat.{mul-le-mul, mul-le-mul-left, mul-le-mul-right, lt-of-not
 use native.Mathlib.Decide.{decLe}
 use borrow.Author.Tests.{eqb-true}
 use lib.Dec.{eqb}
-use lib.ListN.{length}
+use lib.ListN.{length, take}
+use lib.Seq.{length-take-le}
+use Rattle.image.specs.Image.{splice}
+use Rattle.image.proofs.Splice.{length-splice}
 use Rattle.geometry.specs.declared.units.RecordNumber.{RecordNumber}
 use Rattle.geometry.specs.declared.units.EntryNumber.{EntryNumber}
 use Rattle.geometry.specs.Units.{positionOf, entriesBefore}
@@ -132,3 +135,11 @@ room input = elim (decLe (length input) 65536) [
   | yes g ↦ rw (output-within input g) (listing-short input g)
   | no g ↦ rw (output-over input (lt-of-not-le g)) (omega (arith, length-over))
 ]
+
+-- so a buffer of that length holds as many bytes as `list_input` answers
+pub counted : (input out exit : List ℕ) (n : ℕ) → length out ≡ 196608 → n ≡ length (outputOf input) → exit ≡ splice out 0 (outputOf input)
+    → (n ≤ length exit) × (n ≡ length (take n exit))
+counted input out exit n whole e x =
+    let same : length exit ≡ 196608 = ap length x ∙ length-splice out 0 (outputOf input) ∙ whole in
+    let fits : n ≤ length exit = omega (arith, room input) in
+    (fits, sym (length-take-le n exit fits))
