@@ -2,6 +2,8 @@
 // What cannot be read or written is told on standard error.
 use libc::STDIN_FILENO;
 use libc::STDOUT_FILENO;
+use listing::INPUT_MAX;
+use listing::OUTPUT_ROOM;
 
 // Whether the input ended where the reading stopped: one read more finds no byte, and does not fail.
 fn has_ended() -> bool {
@@ -11,7 +13,7 @@ fn has_ended() -> bool {
 
 // Writes what is printed of an input, and answers whether all of it was written.
 fn write_listing(input: &[u8]) -> bool {
-    let mut output = [0u8; 196608];
+    let mut output = [0u8; OUTPUT_ROOM];
     let count = listing::list_input(input, &mut output);
     io::write_all(STDOUT_FILENO, &output[..count])
 }
@@ -19,9 +21,9 @@ fn write_listing(input: &[u8]) -> bool {
 // Reads one byte more than an input may have, so that a longer one is known, and lists it. A read that
 // fails is not the end of the input, and nothing is listed then.
 fn main() {
-    let mut input = [0u8; 65537];
+    let mut input = [0u8; INPUT_MAX + 1];
     let count = io::read_full(STDIN_FILENO, &mut input);
-    if count < 65537 && !has_ended() {
+    if count <= INPUT_MAX && !has_ended() {
         os::fail(b"standard input");
         return;
     }

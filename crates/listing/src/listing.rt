@@ -1,83 +1,22 @@
-// The listing of a file, and what the program prints.
+// The listing of a file, and what the listing program prints of its input.
+use super::entries::list_entries;
 use super::rows::put_refused;
-use super::rows::put_row;
-use super::rows::row_length;
-use descriptor::DescriptorNumbers;
 use descriptor::Validated;
 use descriptor::refusal_of;
 use descriptor::validate;
-use entry::inner::enter;
-use geometry::EntryNumber;
-use geometry::RecordNumber;
-use geometry::entries_before;
 ghost use mathlib.Core.Path.{_≡_};
-ghost use Prim.Native.Nat.{_+_, _≤_};
 ghost use lib.ListN.{length};
 ghost use Rattle.image.specs.Image.{splice};
-ghost use Rattle.descriptor.specs.Bounds.{Admitted};
-ghost use Rattle.listing.specs.Text.{joined, countIn, filledBy};
-ghost use Rattle.listing.specs.Listing.{rowsOf, entriesListing, refusedFile, listingOf, outputOf};
+ghost use Rattle.listing.specs.Text.{countIn, filledBy};
+ghost use Rattle.listing.specs.Listing.{refusedFile, listingOf, outputOf};
 
-// The length of all rows together.
-fn rows_length(file: &[u8], d: DescriptorNumbers, addresses: [RecordNumber; 16]) -> usize
-    requires { ⌜ Admitted (length (now file)) d addresses ⌝ }
-    ensures { λ r. ⌜ r ≡ length (joined (rowsOf (now (file .entry)) d addresses)) ⌝ }
-{
-    let entries = entries_before(d.xnext);
-    let mut sum = 0;
-    let mut passed = 0;
-    while passed < entries {
-        let number = EntryNumber(passed + 1);
-        let entered = enter(file, d, addresses, number);
-        sum += row_length(number, entered);
-        passed += 1;
-    }
-    sum
-}
+// The most bytes of an input that is listed.
+pub const INPUT_MAX: usize = 65536;
 
-// Writes all rows from offset `at` on.
-fn put_rows(
-    file: &[u8],
-    d: DescriptorNumbers,
-    addresses: [RecordNumber; 16],
-    out: &mut [u8],
-    at: usize,
-)
-    requires { ⌜ Admitted (length (now file)) d addresses × (at + length (joined (rowsOf (now file) d addresses)) ≤ length (now out)) ⌝ }
-    ensures { λ _. ⌜ now (out .exit) ≡ splice (now (out .entry)) at (joined (rowsOf (now (file .entry)) d addresses)) ⌝ }
-{
-    let entries = entries_before(d.xnext);
-    let mut next = at;
-    let mut passed = 0;
-    while passed < entries {
-        let number = EntryNumber(passed + 1);
-        let entered = enter(file, d, addresses, number);
-        next = put_row(out, next, number, entered);
-        passed += 1;
-    }
-}
+// Bytes that hold what is printed of any input.
+pub const OUTPUT_ROOM: usize = 196608;
 
-// Writes the listing of validated numbers, if it fits.
-fn list_entries(
-    file: &[u8],
-    d: DescriptorNumbers,
-    addresses: [RecordNumber; 16],
-    out: &mut [u8],
-) -> usize
-    requires { ⌜ Admitted (length (now file)) d addresses ⌝ }
-    ensures answer { λ r. ⌜ r ≡ countIn (entriesListing (now (file .entry)) d addresses) (now (out .entry)) ⌝ }
-    ensures bytes { λ r. ⌜ now (out .exit) ≡ filledBy (entriesListing (now (file .entry)) d addresses) (now (out .entry)) ⌝ }
-{
-    let count = 38 + rows_length(file, d, addresses);
-    if out.len() < count {
-        return 0;
-    }
-    image::put(out, 0, b"entry record word words sections data\n");
-    put_rows(file, d, addresses, out, 38);
-    count
-}
-
-// Writes the line of a refused file, if it fits.
+// Writes the line of a refused file, if the buffer is long enough for it. The line is measured in one that is.
 fn list_refused(refusal: u32, out: &mut [u8]) -> usize
     ensures answer { λ r. ⌜ r ≡ countIn (refusedFile refusal) (now (out .entry)) ⌝ }
     ensures bytes { λ r. ⌜ now (out .exit) ≡ filledBy (refusedFile refusal) (now (out .entry)) ⌝ }
@@ -107,11 +46,11 @@ pub fn list_file(file: &[u8], out: &mut [u8]) -> usize
 }
 
 // Writes what the program prints of its input, and answers how many bytes that is.
-pub fn list_input(input: &[u8], out: &mut [u8; 196608]) -> usize
+pub fn list_input(input: &[u8], out: &mut [u8; OUTPUT_ROOM]) -> usize
     ensures answer { λ r. ⌜ r ≡ length (outputOf (now (input .entry))) ⌝ }
     ensures bytes { λ r. ⌜ now (out .exit) ≡ splice (now (out .entry)) 0 (outputOf (now (input .entry))) ⌝ }
 {
-    if 65536 < input.len() {
+    if INPUT_MAX < input.len() {
         image::put(out, 0, b"input over 65536 bytes\n");
         return 23;
     }

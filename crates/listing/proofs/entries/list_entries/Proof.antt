@@ -1,4 +1,4 @@
--- `listing::listing::list_entries` meets its contract: the listing is measured, and written where it fits. Assumes nothing.
+-- `listing::entries::list_entries` meets its contract: the listing is measured, and written where it fits. Assumes nothing.
 use Prim.Native.Nat.{_≤_, _<_}
 use mathlib.Core.Path.{sym, _∙_}
 use native.Mathlib.Omega.{arith}
@@ -11,8 +11,8 @@ use Rattle.listing.proofs.Lines.{row-short, length-rest}
 use Rattle.listing.proofs.Listings.{fit-count, fit-filled, short-count, short-filled, length-entries, entries-laid}
 use Rattle.listing.proofs.Room.{entries-room}
 use borrow.Author.Needs.{needs}
-use Rattle.listing.proofs.listing.list_entries.Statement.{statement}
-use Rattle.listing.proofs.listing.list_entries.Tie as tie
+use Rattle.listing.proofs.entries.list_entries.Statement.{statement}
+use Rattle.listing.proofs.entries.list_entries.Tie as tie
 
 rows-length-requires : tie.Need-rows-length-requires
 rows-length-requires c κs = search needs

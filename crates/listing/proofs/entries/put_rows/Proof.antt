@@ -1,4 +1,4 @@
--- `listing::listing::put_rows` meets its contract. The loop's invariant: with the rows that are left written from `next` on, the buffer holds all rows. Assumes nothing.
+-- `listing::entries::put_rows` meets its contract. The loop's invariant: with the rows that are left written from `next` on, the buffer holds all rows. Assumes nothing.
 use Prim.Native.Nat.{_+_, _-_, _≤_}
 use mathlib.Core.Path.{_≡_, refl, sym, ap, _∙_}
 use native.Mathlib.Omega.{arith}
@@ -8,17 +8,17 @@ use lib.ListN.{length}
 use Rattle.image.specs.Image.{splice}
 use Rattle.image.proofs.Splice.{splice-nil}
 use Rattle.listing.proofs.Lines.{rest, rest-none, length-next, laid-next}
-use Rattle.listing.proofs.listing.put_rows.Statement.{statement}
-use Rattle.listing.proofs.listing.put_rows.Tie as tie
+use Rattle.listing.proofs.entries.put_rows.Statement.{statement}
+use Rattle.listing.proofs.entries.put_rows.Tie as tie
 
 abbrev Inv-loop : tie.InvT-loop
-Inv-loop file d addresses out₀ at entries next₀ passed₀ out next passed =
-    (passed ≤ entries) × (length out ≡ length out₀)
-    × (next + length (rest file d addresses (passed + 1) (entries - passed)) ≡ at + length (rest file d addresses 1 entries))
-    × (splice out next (rest file d addresses (passed + 1) (entries - passed)) ≡ splice out₀ at (rest file d addresses 1 entries))
+Inv-loop file d addresses out₀ at entries next₀ written₀ out next written =
+    (written ≤ entries) × (length out ≡ length out₀)
+    × (next + length (rest file d addresses (written + 1) (entries - written)) ≡ at + length (rest file d addresses 1 entries))
+    × (splice out next (rest file d addresses (written + 1) (entries - written)) ≡ splice out₀ at (rest file d addresses 1 entries))
 
 abbrev μ-loop : tie.MeasureT-loop
-μ-loop file d addresses out₀ at entries next₀ passed₀ out next passed = entries - passed
+μ-loop file d addresses out₀ at entries next₀ written₀ out next written = entries - written
 
 entries-before-requires : tie.Need-entries-before-requires Inv-loop μ-loop
 entries-before-requires c κs = c .before .before .pre .0 .counted
@@ -38,11 +38,11 @@ put-row-requires c κs =
     let l = c .before .before .before .loop in
     let all = c .before .before .before .before .entries-before in
     let x = c .before .enter in
-    let next = length-next (s .args .file .now) (s .args .d) (s .args .addresses) (l .passed + 1) (all .result - l .passed) (x .result) (omega arith) (x .ensures) in
+    let next = length-next (s .args .file .now) (s .args .d) (s .args .addresses) (l .written + 1) (all .result - l .written) (x .result) (omega arith) (x .ensures) in
     omega (arith, next, l .inv .1, l .inv .2, rw (← (all .ensures)) at (s .pre .1))
 
-add-passed : tie.Need-add-passed Inv-loop μ-loop
-add-passed c = omega arith
+add-written : tie.Need-add-written Inv-loop μ-loop
+add-written c = omega arith
 
 loop-less : tie.Need-loop-less Inv-loop μ-loop
 loop-less c = omega arith
@@ -54,12 +54,12 @@ loop-again c =
     let all = c .before .before .before .before .before .before .before .entries-before .result in
     let x = c .before .before .before .before .enter in
     let row = c .before .before .put-row in
-    let q : all - (l .passed + 1) ≡ all - l .passed - 1 = omega arith in
-    let next = length-next (s .file .now) (s .d) (s .addresses) (l .passed + 1) (all - l .passed) (x .result) (omega arith) (x .ensures) in (
+    let q : all - (l .written + 1) ≡ all - l .written - 1 = omega arith in
+    let next = length-next (s .file .now) (s .d) (s .addresses) (l .written + 1) (all - l .written) (x .result) (omega arith) (x .ensures) in (
       omega arith,
       omega arith,
       rw q (omega (arith, next, l .inv .2, row .ensures .0)),
-      rw q (laid-next (s .file .now) (s .d) (s .addresses) (l .passed + 1) (all - l .passed) (x .result) (l .out) (l .next) (row .last .0) (row .result) (omega arith) (x .ensures)
+      rw q (laid-next (s .file .now) (s .d) (s .addresses) (l .written + 1) (all - l .written) (x .result) (l .out) (l .next) (row .last .0) (row .result) (omega arith) (x .ensures)
           (row .ensures .1) (row .ensures .0) ∙ l .inv .3),
     )
 
@@ -71,8 +71,8 @@ returns c =
     let s = c .before .before .before .before .before .args in
     let l = c .before .loop in
     let all = c .before .before .entries-before in
-    let q : all .result - l .passed ≡ 0 = omega arith in
-    let end = rw (q, rest-none (s .file .now) (s .d) (s .addresses) (l .passed + 1), splice-nil) at (l .inv .3) in
+    let q : all .result - l .written ≡ 0 = omega arith in
+    let end = rw (q, rest-none (s .file .now) (s .d) (s .addresses) (l .written + 1), splice-nil) at (l .inv .3) in
     rw (← (all .ensures)) end
 
 pub put-rows-spec : {M : Type 1} → statement M
@@ -86,7 +86,7 @@ put-rows-spec =
     add-t12
     enter-requires
     put-row-requires
-    add-passed
+    add-written
     loop-less
     loop-again
     same-length

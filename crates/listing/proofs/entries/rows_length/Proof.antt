@@ -1,4 +1,4 @@
--- `listing::listing::rows_length` meets its contract. The loop's invariant: the sum and the length of the rows that are left make up the length of all. Assumes nothing.
+-- `listing::entries::rows_length` meets its contract. The loop's invariant: the sum and the length of the rows that are left make up the length of all. Assumes nothing.
 use Prim.Native.Nat.{_+_, _*_, _-_, _≤_}
 use mathlib.Core.Path.{_≡_, ap}
 use native.Mathlib.Omega.{arith}
@@ -6,15 +6,15 @@ use borrow.Author.Needs.{needs}
 use lib.ListN.{length}
 use Rattle.listing.proofs.Lines.{row-short, rest, rest-none, length-next}
 use Rattle.listing.proofs.Room.{entries-room}
-use Rattle.listing.proofs.listing.rows_length.Statement.{statement}
-use Rattle.listing.proofs.listing.rows_length.Tie as tie
+use Rattle.listing.proofs.entries.rows_length.Statement.{statement}
+use Rattle.listing.proofs.entries.rows_length.Tie as tie
 
 abbrev Inv-loop : tie.InvT-loop
-Inv-loop file d addresses entries sum₀ passed₀ sum passed =
-    (passed ≤ entries) × (sum ≤ 126 * passed) × (sum + length (rest file d addresses (passed + 1) (entries - passed)) ≡ length (rest file d addresses 1 entries))
+Inv-loop file d addresses entries sum₀ measured₀ sum measured =
+    (measured ≤ entries) × (sum ≤ 126 * measured) × (sum + length (rest file d addresses (measured + 1) (entries - measured)) ≡ length (rest file d addresses 1 entries))
 
 abbrev μ-loop : tie.MeasureT-loop
-μ-loop file d addresses entries sum₀ passed₀ sum passed = entries - passed
+μ-loop file d addresses entries sum₀ measured₀ sum measured = entries - measured
 
 entries-before-requires : tie.Need-entries-before-requires Inv-loop μ-loop
 entries-before-requires c κs = c .before .pre .counted
@@ -34,11 +34,11 @@ row-length-requires c κs = search needs
 add-sum : tie.Need-add-sum Inv-loop μ-loop
 add-sum c =
     let s = c .before .before .before .before .before .before in
-    let row = row-short (c .before .before .before .loop .passed + 1) (c .before .enter .result) in
+    let row = row-short (c .before .before .before .loop .measured + 1) (c .before .enter .result) in
     omega (arith, row, c .row-length .ensures, entries-room (length (s .args .file .now)) (s .args .d) (s .args .addresses) (s .pre), s .pre .lent .high)
 
-add-passed : tie.Need-add-passed Inv-loop μ-loop
-add-passed c = omega arith
+add-measured : tie.Need-add-measured Inv-loop μ-loop
+add-measured c = omega arith
 
 loop-less : tie.Need-loop-less Inv-loop μ-loop
 loop-less c = omega arith
@@ -49,17 +49,17 @@ loop-again c =
     let l = c .before .before .before .loop in
     let all = c .before .before .before .before .entries-before .result in
     let x = c .before .enter in
-    let q : all - (l .passed + 1) ≡ all - l .passed - 1 = omega arith in
-    let next = length-next (s .file .now) (s .d) (s .addresses) (l .passed + 1) (all - l .passed) (x .result) (omega arith) (x .ensures) in
-    (omega arith, omega (arith, row-short (l .passed + 1) (x .result), c .row-length .ensures), rw q (omega (arith, next, l .inv .2, c .row-length .ensures)))
+    let q : all - (l .measured + 1) ≡ all - l .measured - 1 = omega arith in
+    let next = length-next (s .file .now) (s .d) (s .addresses) (l .measured + 1) (all - l .measured) (x .result) (omega arith) (x .ensures) in
+    (omega arith, omega (arith, row-short (l .measured + 1) (x .result), c .row-length .ensures), rw q (omega (arith, next, l .inv .2, c .row-length .ensures)))
 
 returns : tie.Need-returns Inv-loop μ-loop
 returns c =
     let s = c .before .before .before .before .args in
     let l = c .before .loop in
     let all = c .before .before .entries-before in
-    let q : all .result - l .passed ≡ 0 = omega arith in
-    let none = ap length (rest-none (s .file .now) (s .d) (s .addresses) (l .passed + 1)) in
+    let q : all .result - l .measured ≡ 0 = omega arith in
+    let none = ap length (rest-none (s .file .now) (s .d) (s .addresses) (l .measured + 1)) in
     rw (← (all .ensures)) (omega (arith, none, rw q at (l .inv .2)))
 
 pub rows-length-spec : {M : Type 1} → statement M
@@ -74,7 +74,7 @@ rows-length-spec =
     enter-requires
     row-length-requires
     add-sum
-    add-passed
+    add-measured
     loop-less
     loop-again
     returns)
