@@ -66,7 +66,8 @@ length-held (suc j) zero n h l = absurd (omega arith)
 length-held (suc j) (suc zero) n h l = let small : n < 10 = l in rw (lt-ltb n 10 small) (omega arith)
 length-held (suc j) (suc (suc k)) n h l =
     let high = rw (pow-suc 10 (suc k)) at l in
-    either-length (ltb n 10) _ _ (suc (suc k)) (omega arith) (rw length-append (omega (arith, length-held j (suc k) (n / 10) (omega arith) (omega arith))))
+    let rest = length-held j (suc k) (n / 10) (omega arith) (omega arith) in
+    either-length (ltb n 10) _ _ (suc (suc k)) (omega arith) (rw length-append (omega arith))
 
 -- so a decimal number has 20 bytes at most, and below 100,000 it has 5; a field has one more
 pub length-decimal : (n : ℕ) → length (decimalOf n) ≤ 20

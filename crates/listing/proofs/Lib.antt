@@ -1,4 +1,5 @@
--- The laws of `listing`.
+-- The laws of `listing`, and its worked examples.
+pub mod Areas
 pub mod Decimal
 pub mod Lines
 pub mod Listings

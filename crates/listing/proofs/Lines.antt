@@ -92,7 +92,8 @@ module _ (file : List ℕ) (d : DescriptorNumbers) (addresses : List RecordNumbe
   unfolding rowsFrom
   rest-none k = refl
 
-  pub rest-next : (k left : ℕ) (x : Entered) → 1 ≤ left → x ≡ enteredOf file d addresses (record { 0 = k }) → rest k left ≡ rowOf k x ++ rest (k + 1) (left - 1)
+  pub rest-next : (k left : ℕ) (x : Entered) → 1 ≤ left → x ≡ enteredOf file d addresses (record { 0 = k })
+      → rest k left ≡ rowOf k x ++ rest (k + 1) (left - 1)
   unfolding rowsFrom
   rest-next k zero x h q = absurd (omega arith)
   rest-next k (suc left) x h q = let p : suc left - 1 ≡ left = omega arith in rw (p, q)
@@ -102,15 +103,21 @@ module _ (file : List ℕ) (d : DescriptorNumbers) (addresses : List RecordNumbe
       → length (rest k left) ≡ length (rowOf k x) + length (rest (k + 1) (left - 1))
   length-next k left x h q = ap length (rest-next k left x h q) ∙ length-append (rowOf k x) (rest (k + 1) (left - 1))
 
-  pub length-rest : (most k left : ℕ) → ((i : ℕ) → k ≤ i → i < k + left → length (rowOf i (enteredOf file d addresses (record { 0 = i }))) ≤ most) → length (rest k left) ≤ most * left
+  pub length-rest : (most k left : ℕ) → ((i : ℕ) → k ≤ i → i < k + left → length (rowOf i (enteredOf file d addresses (record { 0 = i }))) ≤ most)
+      → length (rest k left) ≤ most * left
   length-rest most k zero h = omega (arith, ap length (rest-none k))
   length-rest most k (suc left) h =
       let q : suc left - 1 ≡ left = omega arith in
       let later = length-rest most (k + 1) left (λ i l m. h i (omega arith) (omega arith)) in
-      omega (arith, later, h k (omega arith) (omega arith), rw q at (length-next k (suc left) (enteredOf file d addresses (record { 0 = k })) (omega arith) refl))
+      let next = rw q at (length-next k (suc left) (enteredOf file d addresses (record { 0 = k })) (omega arith) refl) in
+      omega (arith, later, h k (omega arith) (omega arith), next)
+
+  pub rows-short : length (joined (rowsOf file d addresses)) ≤ 126 * entriesBefore (d .xnext)
+  rows-short = length-rest 126 1 (entriesBefore (d .xnext)) (λ i l m. row-short i (enteredOf file d addresses (record { 0 = i })))
 
   -- one row more written
-  pub laid-next : (k left : ℕ) (x : Entered) (out : List ℕ) (at : ℕ) (row-out : List ℕ) (behind : ℕ) → 1 ≤ left → x ≡ enteredOf file d addresses (record { 0 = k })
+  pub laid-next : (k left : ℕ) (x : Entered) (out : List ℕ) (at : ℕ) (row-out : List ℕ) (behind : ℕ) → 1 ≤ left
+      → x ≡ enteredOf file d addresses (record { 0 = k })
       → row-out ≡ splice out at (rowOf k x) → behind ≡ at + length (rowOf k x)
       → splice row-out behind (rest (k + 1) (left - 1)) ≡ splice out at (rest k left)
   laid-next k left x out at row-out behind h q o b =

@@ -1,6 +1,6 @@
--- Laws of a whole listing: how long it is, how it is written piece by piece, by which case it goes, and what a lent buffer holds of it. Assumes nothing.
+-- Laws of a whole listing: its length, its pieces written one after the other, its cases, and what a lent buffer holds of it. Assumes nothing.
 use Prim.Native.Nat.{ℕ, _+_, _≤_, _<_}
-use mathlib.Core.Path.{_≡_, refl}
+use mathlib.Core.Path.{_≡_, refl, sym, _∙_}
 use mathlib.Core.List.{List}
 use native.Mathlib.Omega.{arith}
 use borrow.Author.Tests.{le-leb, lt-leb}
@@ -15,23 +15,23 @@ use Rattle.descriptor.specs.Answers.{validationOf}
 use Rattle.listing.specs.Text.{text, joined, countIn, filledBy}
 use Rattle.listing.specs.Listing.{header, refusedOf, rowsOf, refusedFile, entriesListing, listingIn, listingOf, overLimit, outputOf}
 
--- bytes that fit a lent buffer, and bytes that do not
-module _ (bytes out : List ℕ) where
-  pub fit-count : length bytes ≤ length out → countIn bytes out ≡ length bytes
+-- bytes that fit a lent buffer
+module _ (bytes out : List ℕ) (fits : length bytes ≤ length out) where
+  pub fit-count : countIn bytes out ≡ length bytes
   unfolding countIn
-  fit-count h = rw (le-leb (length bytes) (length out) h)
+  fit-count = rw (le-leb (length bytes) (length out) fits)
 
-  pub fit-filled : length bytes ≤ length out → filledBy bytes out ≡ splice out 0 bytes
+  pub fit-filled : filledBy bytes out ≡ splice out 0 bytes
   unfolding filledBy
-  fit-filled h = rw (le-leb (length bytes) (length out) h)
+  fit-filled = rw (le-leb (length bytes) (length out) fits)
 
-  pub short-count : length out < length bytes → countIn bytes out ≡ 0
-  unfolding countIn
-  short-count h = rw (lt-leb (length bytes) (length out) h)
+  pub handed-over : (count : ℕ) (exit : List ℕ) → count ≡ length bytes → exit ≡ splice out 0 bytes → (count ≡ countIn bytes out) × (exit ≡ filledBy bytes out)
+  handed-over count exit e x = (e ∙ sym fit-count, x ∙ sym fit-filled)
 
-  pub short-filled : length out < length bytes → filledBy bytes out ≡ out
-  unfolding filledBy
-  short-filled h = rw (lt-leb (length bytes) (length out) h)
+-- and bytes that do not
+pub left-alone : (bytes out : List ℕ) → length out < length bytes → (0 ≡ countIn bytes out) × (out ≡ filledBy bytes out)
+unfolding countIn filledBy
+left-alone bytes out long = let n = lt-leb (length bytes) (length out) long in (rw n, rw n)
 
 -- the listing of validated numbers: the header, and the rows behind it
 module _ (file : List ℕ) (d : DescriptorNumbers) (addresses : List RecordNumber) where
@@ -39,7 +39,8 @@ module _ (file : List ℕ) (d : DescriptorNumbers) (addresses : List RecordNumbe
   unfolding entriesListing header
   length-entries = omega arith
 
-  pub entries-laid : (out : List ℕ) → splice (splice out 0 header) 38 (joined (rowsOf file d addresses)) ≡ splice out 0 (entriesListing file d addresses)
+  pub entries-laid : (out : List ℕ)
+      → splice (splice out 0 header) 38 (joined (rowsOf file d addresses)) ≡ splice out 0 (entriesListing file d addresses)
   unfolding entriesListing header
   entries-laid out = splice-adjacent out 0 header 38 (joined (rowsOf file d addresses)) refl
 
@@ -53,7 +54,8 @@ unfolding refusedFile
 refused-laid n out = splice-adjacent out 0 (text "file") 4 (refusedOf n) refl
 
 -- the listing, by the validation's case
-pub listing-by : (file : List ℕ) (v : Validation) (case : Validated) → v ≡ validationOf file → v .numbers ≡ case → listingOf file ≡ listingIn file case (v .addresses)
+pub listing-by : (file : List ℕ) (v : Validation) (case : Validated) → v ≡ validationOf file → v .numbers ≡ case
+    → listingOf file ≡ listingIn file case (v .addresses)
 unfolding listingOf
 listing-by file v case e q = rw (← e, ← q)
 

@@ -1,10 +1,10 @@
--- How long a listing can be: a file has few entries for its bytes, and the output of any input fits the program's buffer. Assumes nothing.
-use Prim.Native.Nat.{ℕ, zero, suc, _+_, _*_, _-_, _/_, _^_, _≤_, _<_}
+-- How long an output can be: what the program prints of any input fits 196,608 bytes. Assumes nothing.
+use Prim.Native.Nat.{ℕ, _-_, _^_, _≤_, _<_}
 use mathlib.Core.Path.{_≡_, refl, sym, ap, _∙_}
 use mathlib.Core.Bool.{Bool, true, false}
 use mathlib.Core.List.{List}
 use native.Mathlib.Omega.{arith}
-use native.Mathlib.Nat.{mul-le-mul, mul-le-mul-left, mul-le-mul-right, lt-of-not-le}
+use native.Mathlib.Nat.{mul-le-mul-left, lt-of-not-le}
 use native.Mathlib.Decide.{decLe}
 use borrow.Author.Tests.{eqb-true}
 use lib.Dec.{eqb}
@@ -15,19 +15,13 @@ use Rattle.image.proofs.Splice.{length-splice}
 use Rattle.geometry.specs.declared.units.RecordNumber.{RecordNumber}
 use Rattle.geometry.specs.declared.units.EntryNumber.{EntryNumber}
 use Rattle.geometry.specs.Units.{positionOf, entriesBefore}
-use Rattle.geometry.specs.Growth.{capacityOf, totalOf}
-use Rattle.geometry.proofs.Capacities.{total-none, total-next}
-use Rattle.geometry.proofs.Slots.{records-hold}
 use Rattle.descriptor.specs.declared.numbers.DescriptorNumbers.{DescriptorNumbers}
 use Rattle.descriptor.specs.declared.validating.Validated.{Validated}
 use Rattle.descriptor.specs.declared.validating.Validated.the-variants.{Numbers, Refused}
-use Rattle.descriptor.specs.FirstRecord.{growthIn, freeOf, aexOf}
-use Rattle.descriptor.specs.Rules.{areaAfter}
+use Rattle.descriptor.specs.FirstRecord.{freeOf}
 use Rattle.descriptor.specs.Answers.{validationOf}
 use Rattle.descriptor.specs.Bounds.{Admitted}
 use Rattle.descriptor.proofs.Answered.{told}
-use Rattle.descriptor.proofs.Fitting.{fit-reach}
-use Rattle.descriptor.proofs.AreaOrder.{after-none, area-low, area-words, area-ends}
 use Rattle.entry.specs.declared.contents.Piece.{Piece}
 use Rattle.entry.specs.declared.opening.Entered.{Entered}
 use Rattle.entry.specs.Contents.{dataWithin}
@@ -36,46 +30,25 @@ use Rattle.entry.proofs.Pieces.{data-placed}
 use Rattle.entry.proofs.Entering.{entry-opens, entered-numbers, entered-refusal}
 use Rattle.listing.specs.Text.{space, newline}
 use Rattle.listing.specs.Listing.{openedRow, rowOf, entriesListing, listingIn, listingOf, overLimit, outputOf}
+use Rattle.listing.proofs.Areas.{most-entries}
 use Rattle.listing.proofs.Decimal.{length-small, field-short, field-small}
 use Rattle.listing.proofs.Lines.{length-refused, length-opened, length-refused-row, row-opened, row-refused, length-rest}
 use Rattle.listing.proofs.Listings.{length-entries, length-refused-file, listing-by, output-within, output-over}
 
-module _ (bytes : ℕ) (d : DescriptorNumbers) (addresses : List RecordNumber) (a : Admitted bytes d addresses) where
-  -- the first record and the slots of the first k extensions stand before the end of area k
-  areas-hold : (k : ℕ) → k ≤ d .nex → d .reclen + totalOf (growthIn d) k * d .lind ≤ (areaAfter d addresses k - 1) * d .reclen
-  unfolding positionOf
-  areas-hold zero h = rw (after-none d addresses, total-none (growthIn d)) (omega arith)
-  areas-hold (suc k) h =
-      let q : suc k ≡ k + 1 = omega arith in
-      let words = capacityOf (growthIn d) (k + 1) * d .lind in
-      let less : areaAfter d addresses k - 1 ≤ aexOf addresses (k + 1) .0 - 1 = omega (arith, area-low d addresses k (d .nex) h (a .started) .0) in
-      let area = area-words bytes d addresses a (k + 1) (omega arith) (omega arith) in
-      let enough = records-hold words (d .reclen) (omega (arith, a .settled .reclen-low)) in
-      rw (q, total-next (growthIn d) k) (omega (arith, areas-hold k (omega arith), mul-le-mul-right (d .reclen) less))
-
-  -- three words of a slot for each entry, and the first record
-  pub entries-room : 3 * entriesBefore (d .xnext) + d .reclen ≤ bytes / 4
-  entries-room =
-      let reach = fit-reach (growthIn d) (entriesBefore (d .xnext)) (d .nex) (a .fit) in
-      omega (arith, areas-hold (d .nex) (omega arith), area-ends bytes d addresses a (d .nex) (omega arith), a .room, mul-le-mul reach (a .settled .lind-low))
-
-  -- 65,536 bytes hold 5,456 entries at most
-  pub most-entries : bytes ≤ 65536 → entriesBefore (d .xnext) ≤ 5456
-  most-entries h = omega (arith, entries-room, a .settled .reclen-low)
+-- data that lies within an entry has no more words than the entry
+data-words : (nsec nword : ℕ) (p : Piece) → nword < 2 ^ 32 → dataWithin nsec nword p ≡ true → p .words ≤ nword
+data-words nsec nword p h e =
+    elim (decLe (p .words) 0) [
+      | yes g ↦ omega arith
+      | no g ↦ omega (arith, data-placed nsec nword p h (λ z. g (omega arith)) e)
+    ]
 
 -- the rows of a file within the limit
-module _ (file : List ℕ) (d : DescriptorNumbers) (addresses : List RecordNumber) (a : Admitted (length file) d addresses) (short : length file ≤ 65536) where
-  -- data that lies within an entry has no more words than the entry
-  data-words : (nsec nword : ℕ) (p : Piece) → nword < 2 ^ 32 → dataWithin nsec nword p ≡ true → p .words ≤ nword
-  data-words nsec nword p h e =
-      elim (decLe (p .words) 0) [
-        | yes g ↦ omega arith
-        | no g ↦
-            omega (arith, data-placed nsec nword p h (λ z. g (omega arith)) e)
-      ]
-
+module _ (file : List ℕ) (d : DescriptorNumbers) (addresses : List RecordNumber) (a : Admitted (length file) d addresses)
+    (short : length file ≤ 65536) where
   -- a field of an entry that opens has 6 bytes at most
-  opened-small : (e : EntryNumber) → e .0 ≤ 5456 → entryRefusal file d addresses e ≡ 0 → length (openedRow (e .0) (enteredOf file d addresses e)) ≤ 36
+  opened-small : (e : EntryNumber) → e .0 ≤ 5456 → entryRefusal file d addresses e ≡ 0
+      → length (openedRow (e .0) (enteredOf file d addresses e)) ≤ 36
   unfolding positionOf
   opened-small e h z =
       let o = entry-opens file d addresses e a z in
@@ -89,7 +62,8 @@ module _ (file : List ℕ) (d : DescriptorNumbers) (addresses : List RecordNumbe
       let word = field-small (x .place .word .0) space (omega (arith, o .word-high, a .settled .reclen-high)) in
       let words = field-small (x .nword) space (omega arith) in
       let sections = field-small (x .nsec) space (omega (arith, o .described .sections)) in
-      let array = field-small (x .array .words) newline (omega (arith, data-words (x .nsec) (x .nword) (x .array) (omega arith) (o .data-within))) in
+      let ldata = data-words (x .nsec) (x .nword) (x .array) (omega arith) (o .data-within) in
+      let array = field-small (x .array .words) newline (omega arith) in
       rw (entered-numbers file d addresses e z) (omega (arith, length-opened (e .0) x))
 
   -- and a row has 36
@@ -104,8 +78,8 @@ module _ (file : List ℕ) (d : DescriptorNumbers) (addresses : List RecordNumbe
           let z = eqb-true (x .refusal) 0 t in
           rw (row-opened e x z) (opened-small (record { 0 = e }) h (sym (entered-refusal file d addresses (record { 0 = e })) ∙ z))
       by false t =
-          rw (row-refused e x t)
-          (omega (arith, length-refused-row e (x .refusal), length-refused (x .refusal), length-small e (omega arith), field-short (x .refusal) newline))
+          let n = x .refusal in
+          rw (row-refused e x t) (omega (arith, length-refused-row e n, length-refused n, length-small e (omega arith), field-short n newline))
 
   entries-short : length (entriesListing file d addresses) ≤ 196608
   entries-short =
@@ -114,7 +88,8 @@ module _ (file : List ℕ) (d : DescriptorNumbers) (addresses : List RecordNumbe
       omega (arith, length-entries file d addresses)
 
 -- the listing of a file within the limit, by the validation's case
-case-short : (file : List ℕ) (case : Validated) (addresses : List RecordNumber) → ((d : DescriptorNumbers) → case ≡ Numbers d → Admitted (length file) d addresses)
+case-short : (file : List ℕ) (case : Validated) (addresses : List RecordNumber)
+    → ((d : DescriptorNumbers) → case ≡ Numbers d → Admitted (length file) d addresses)
     → length file ≤ 65536 → length (listingIn file case addresses) ≤ 196608
 unfolding listingIn
 case-short file (Refused n) addresses f h = omega (arith, length-refused-file n, length-refused n, field-short n newline)

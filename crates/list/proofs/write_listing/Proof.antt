@@ -12,10 +12,12 @@ list-input-requires : tie.Need-list-input-requires
 list-input-requires c κs = search needs
 
 -- what the answer counts
-count : (c : tie.After-list-input) → (c .list-input .result ≤ length (c .list-input .last .1 .0)) × (c .list-input .result ≡ length (take (c .list-input .result) (c .list-input .last .1 .0)))
+count : (c : tie.After-list-input) → let l = c .list-input in
+    (l .result ≤ length (l .last .1 .0)) × (l .result ≡ length (take (l .result) (l .last .1 .0)))
 count c =
-    counted (now (c .before .before .before .args .input)) (replicate 196608 0) (c .list-input .last .1 .0) (c .list-input .result) (length-replicate {A = ℕ} 196608 0)
-    (c .list-input .ensures .0) (c .list-input .ensures .1)
+    let l = c .list-input in
+    counted (now (c .before .before .before .args .input)) (replicate 196608 0) (l .last .1 .0) (l .result) (length-replicate {A = ℕ} 196608 0)
+    (l .ensures .0) (l .ensures .1)
 
 array-share-prefix-output : tie.Need-array-share-prefix-output
 array-share-prefix-output c = count c .0

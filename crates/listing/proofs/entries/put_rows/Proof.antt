@@ -1,4 +1,5 @@
--- `listing::entries::put_rows` meets its contract. The loop's invariant: with the rows that are left written from `next` on, the buffer holds all rows. Assumes nothing.
+-- `listing::entries::put_rows` meets its contract.
+-- The loop's invariant: with the rows that are left written from `next` on, the buffer holds all rows. Assumes nothing.
 use Prim.Native.Nat.{_+_, _-_, _≤_}
 use mathlib.Core.Path.{_≡_, refl, sym, ap, _∙_}
 use native.Mathlib.Omega.{arith}
@@ -38,7 +39,9 @@ put-row-requires c κs =
     let l = c .before .before .before .loop in
     let all = c .before .before .before .before .entries-before in
     let x = c .before .enter in
-    let next = length-next (s .args .file .now) (s .args .d) (s .args .addresses) (l .written + 1) (all .result - l .written) (x .result) (omega arith) (x .ensures) in
+    let a = s .args in
+    let next = length-next (a .file .now) (a .d) (a .addresses) (l .written + 1) (all .result - l .written) (x .result) (omega arith)
+    (x .ensures) in
     omega (arith, next, l .inv .1, l .inv .2, rw (← (all .ensures)) at (s .pre .1))
 
 add-written : tie.Need-add-written Inv-loop μ-loop
@@ -55,12 +58,13 @@ loop-again c =
     let x = c .before .before .before .before .enter in
     let row = c .before .before .put-row in
     let q : all - (l .written + 1) ≡ all - l .written - 1 = omega arith in
-    let next = length-next (s .file .now) (s .d) (s .addresses) (l .written + 1) (all - l .written) (x .result) (omega arith) (x .ensures) in (
+    let next = length-next (s .file .now) (s .d) (s .addresses) (l .written + 1) (all - l .written) (x .result) (omega arith)
+    (x .ensures) in (
       omega arith,
       omega arith,
       rw q (omega (arith, next, l .inv .2, row .ensures .0)),
-      rw q (laid-next (s .file .now) (s .d) (s .addresses) (l .written + 1) (all - l .written) (x .result) (l .out) (l .next) (row .last .0) (row .result) (omega arith) (x .ensures)
-          (row .ensures .1) (row .ensures .0) ∙ l .inv .3),
+      rw q (laid-next (s .file .now) (s .d) (s .addresses) (l .written + 1) (all - l .written) (x .result) (l .out) (l .next) (row .last .0)
+          (row .result) (omega arith) (x .ensures) (row .ensures .1) (row .ensures .0) ∙ l .inv .3),
     )
 
 same-length : tie.Need-same-length Inv-loop μ-loop

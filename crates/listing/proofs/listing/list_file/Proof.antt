@@ -29,18 +29,18 @@ same-length c = search needs
 returns : tie.Need-returns
 unfolding listingIn
 returns c =
-    let a = c .before .before .before .before .before .before .before .before .before .before .args in
-    let v = c .before .before .before .before .before .before .before .validate in
-    let t = c .before .before .before .before .before .enum-told .given .1 in
-    let q = listing-by (a .file .now) (v .result) _ (v .ensures) t in
-    let n = c .before .before .before .before .refusal-of .ensures ∙ ap numberOf t in
-    let line = rw n at (c .before .before .list-refused .ensures) in
+    let p = c .before .before .before .before in
+    let v = p .before .before .before in
+    let t = p .before .enum-told .given .1 in
+    let q = listing-by (v .before .before .before .args .file .now) (v .validate .result) _ (v .validate .ensures) t in
+    let line = rw (p .refusal-of .ensures ∙ ap numberOf t) at (c .before .before .list-refused .ensures) in
     (rw q (line .0), rw q (line .1))
 
 list-entries-requires : tie.Need-list-entries-requires
 list-entries-requires c κs =
-    let v = c .before .before .before .before .before .validate in
-    told (c .before .before .before .before .before .before .before .before .args .file .now) (v .result) (c .before .before .before .case .given .0 .0) (v .ensures) (c .before .before .before .case .given .1) .admitted
+    let case = c .before .before .before in
+    let v = case .before .before in
+    told (v .before .before .before .args .file .now) (v .validate .result) (case .case .given .0 .0) (v .validate .ensures) (case .case .given .1) .admitted
 
 same-length-2 : tie.Need-same-length-2
 same-length-2 c = search needs
@@ -48,9 +48,9 @@ same-length-2 c = search needs
 returns-2 : tie.Need-returns-2
 unfolding listingIn
 returns-2 c =
-    let a = c .before .before .before .before .before .before .before .before .before .before .before .args in
-    let v = c .before .before .before .before .before .before .before .before .validate in
-    let q = listing-by (a .file .now) (v .result) _ (v .ensures) (c .before .before .before .before .before .before .case .given .1) in
+    let case = c .before .before .before .before .before .before in
+    let v = case .before .before in
+    let q = listing-by (v .before .before .before .args .file .now) (v .validate .result) _ (v .validate .ensures) (case .case .given .1) in
     let all = c .before .before .list-entries .ensures in
     (rw q (all .0), rw q (all .1))
 

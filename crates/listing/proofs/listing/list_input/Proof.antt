@@ -30,8 +30,10 @@ returns-2 : tie.Need-returns-2
 returns-2 c =
     let a = c .before .before .before .before .args in
     let q = output-within (now (a .input)) (c .before .before .if1 .left) in
-    let fits : length (listingOf (now (a .input))) ≤ length (now (a .out)) = omega (arith, rw q at (room (now (a .input)))) in
-    (rw q (c .list-file .ensures .0 ∙ fit-count (listingOf (now (a .input))) (now (a .out)) fits), rw q (c .list-file .ensures .1 ∙ fit-filled (listingOf (now (a .input))) (now (a .out)) fits))
+    let listing = listingOf (now (a .input)) in
+    let fits : length listing ≤ length (now (a .out)) = omega (arith, rw q at (room (now (a .input)))) in
+    let all = c .list-file .ensures in
+    (rw q (all .0 ∙ fit-count listing (now (a .out)) fits), rw q (all .1 ∙ fit-filled listing (now (a .out)) fits))
 
 pub list-input-spec : {M : Type 1} → statement M
 list-input-spec =

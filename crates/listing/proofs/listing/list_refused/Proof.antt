@@ -1,14 +1,12 @@
 -- `listing::listing::list_refused` meets its contract: the line is measured, and written where it fits. Assumes nothing.
-use Prim.Native.Nat.{_≤_, _<_}
-use mathlib.Core.Path.{sym, _∙_}
+use mathlib.Core.Path.{_∙_}
 use native.Mathlib.Omega.{arith}
 use denote.Ref.{now}
-use lib.ListN.{length}
 use Rattle.listing.specs.Text.{newline}
 use Rattle.listing.specs.Listing.{refusedFile}
 use Rattle.listing.proofs.Decimal.{field-short}
 use Rattle.listing.proofs.Lines.{length-refused}
-use Rattle.listing.proofs.Listings.{fit-count, fit-filled, short-count, short-filled, length-refused-file, refused-laid}
+use Rattle.listing.proofs.Listings.{handed-over, left-alone, length-refused-file, refused-laid}
 use borrow.Author.Needs.{needs}
 use Rattle.listing.proofs.listing.list_refused.Statement.{statement}
 use Rattle.listing.proofs.listing.list_refused.Tie as tie
@@ -17,13 +15,15 @@ slice-aggregate-put-refused : tie.Need-slice-aggregate-put-refused
 slice-aggregate-put-refused c = search needs
 
 put-refused-requires : tie.Need-put-refused-requires
-put-refused-requires c κs = omega (arith, length-refused (c .before .before .args .refusal), field-short (c .before .before .args .refusal) newline)
+put-refused-requires c κs =
+    let n = c .before .before .args .refusal in
+    omega (arith, length-refused n, field-short n newline)
 
 returns : tie.Need-returns
 returns c =
-    let a = c .before .before .before .before .before .args in
-    let long : length (now (a .out)) < length (refusedFile (a .refusal)) = omega (arith, length-refused-file (a .refusal), c .before .before .put-refused .ensures .0) in
-    (sym (short-count (refusedFile (a .refusal)) (now (a .out)) long), sym (short-filled (refusedFile (a .refusal)) (now (a .out)) long))
+    let p = c .before .before in
+    let a = p .before .before .before .args in
+    left-alone (refusedFile (a .refusal)) (now (a .out)) (omega (arith, length-refused-file (a .refusal), p .put-refused .ensures .0))
 
 slice-aggregate-put : tie.Need-slice-aggregate-put
 slice-aggregate-put c = search needs
@@ -39,13 +39,14 @@ same-length c = search needs
 
 returns-2 : tie.Need-returns-2
 returns-2 c =
-    let a = c .before .before .before .before .before .before .before .before .before .before .before .before .before .before .args in
+    let line = c .before .before .put-refused2 .ensures in
+    let word = c .before .before .before .before .before .before in
+    let p = word .before .before .before .before .before in
+    let a = p .before .before .before .args in
+    let bytes = refusedFile (a .refusal) in
     let n = length-refused-file (a .refusal) in
-    let line = c .before .before .put-refused2 in
-    let fits : length (refusedFile (a .refusal)) ≤ length (now (a .out)) = omega (arith, n, c .before .before .before .before .before .before .before .before .before .before .before .put-refused .ensures .0) in (
-      rw (fit-count (refusedFile (a .refusal)) (now (a .out)) fits) (omega (arith, n, line .ensures .0)),
-      rw (fit-filled (refusedFile (a .refusal)) (now (a .out)) fits) ((rw (c .before .before .before .before .before .before .put .ensures) at (line .ensures .1)) ∙ refused-laid (a .refusal) (now (a .out))),
-    )
+    handed-over bytes (now (a .out)) (omega (arith, n, p .put-refused .ensures .0)) (c .before .before .put-refused2 .result) (c .before .before .put-refused2 .last .0)
+    (omega (arith, n, line .0)) ((rw (word .put .ensures) at (line .1)) ∙ refused-laid (a .refusal) (now (a .out)))
 
 pub list-refused-spec : {M : Type 1} → statement M
 list-refused-spec =

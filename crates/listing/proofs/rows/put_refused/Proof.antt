@@ -29,10 +29,12 @@ same-length c = search needs
 returns : tie.Need-returns
 unfolding refusedOf
 returns c =
-    let a = c .before .before .before .before .before .before .before .before .before .before .args in
-    let word = c .before .before .before .before .before .before .put in
-    let field = c .before .before .put-field in
-    (omega (arith, length-refused (a .refusal)), (rw (word .ensures) at (field .ensures .1)) ∙ splice-adjacent (now (a .out)) (a .at) (text " refused ") (a .at + 9) (fieldOf (a .refusal) newline) refl)
+    let field = c .before .before .put-field .ensures in
+    let word = c .before .before .before .before .before .before in
+    let a = word .before .before .before .before .args in (
+      omega (arith, length-refused (a .refusal)),
+      (rw (word .put .ensures) at (field .1)) ∙ splice-adjacent (now (a .out)) (a .at) (text " refused ") (a .at + 9) (fieldOf (a .refusal) newline) refl,
+    )
 
 pub put-refused-spec : {M : Type 1} → statement M
 put-refused-spec =

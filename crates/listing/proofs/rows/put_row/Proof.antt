@@ -46,11 +46,12 @@ same-length-2 c = search needs
 returns-2 : tie.Need-returns-2
 unfolding refusedRow
 returns-2 c =
-    let a = c .before .before .before .before .before .before .before .before .before .before .before .args in
+    let word = c .before .before .put-refused in
+    let p = c .before .before .before .before .before .before in
+    let digits = p .put-decimal in
+    let a = p .before .before .before .before .before .args in
     let x = a .entered in
-    let q = row-refused (a .number .0) x (ne-eqb (x .refusal) 0 (c .before .before .before .before .before .before .before .before .if1 .left)) in
-    let digits = c .before .before .before .before .before .before .put-decimal in
-    let word = c .before .before .put-refused in (
+    let q = row-refused (a .number .0) x (ne-eqb (x .refusal) 0 (p .before .before .if1 .left)) in (
       omega (arith, ap length q, length-refused-row (a .number .0) (x .refusal), digits .ensures .0, word .ensures .0),
       rw q ((rw (digits .ensures .1) at (word .ensures .1))
           ∙ splice-adjacent (now (a .out)) (a .at) (decimalOf (a .number .0)) (digits .result) (refusedOf (x .refusal)) (digits .ensures .0)),

@@ -11,7 +11,9 @@ use Rattle.listing.proofs.text.put_decimal.Tie as tie
 
 -- what was written to the array are the number's digits
 shown : (c : tie.After-decimal) → take (c .decimal .result) (c .decimal .last .1 .0) ≡ decimalOf (c .before .before .before .args .n)
-shown c = c .decimal .ensures .1 .1 ∙ decimal-digits (c .decimal .result) (c .before .before .before .args .n) (omega arith) (c .decimal .ensures .1 .0)
+shown c =
+    let e = c .decimal .ensures .1 in
+    e .1 ∙ decimal-digits (c .decimal .result) (c .before .before .before .args .n) (omega arith) (e .0)
 
 decimal-requires : tie.Need-decimal-requires
 decimal-requires c κs = search needs
