@@ -12,7 +12,8 @@ use Rattle.descriptor.specs.declared.numbers.DescriptorNumbers.{DescriptorNumbe
 use Rattle.descriptor.specs.declared.validating.Validated.{Validated}
 use Rattle.descriptor.specs.declared.validating.Validation.{Validation}
 use Rattle.descriptor.specs.Answers.{validationOf}
-use Rattle.listing.specs.Text.{text, joined, countIn, filledBy}
+use Rattle.listing.specs.Text.{text, joined}
+use Rattle.listing.specs.Buffer.{countIn, filledBy}
 use Rattle.listing.specs.Listing.{header, refusedOf, rowsOf, refusedFile, entriesListing, listingIn, listingOf, overLimit, outputOf}
 
 -- bytes that fit a lent buffer

@@ -14,7 +14,7 @@ use Rattle.entry.specs.declared.opening.Entered.{Entered}
 use Rattle.entry.specs.Opening.{enteredOf}
 use Rattle.listing.specs.Text.{text, space, newline, decimalOf, fieldOf, joined}
 
--- the header: the names of the fields
+-- the header: a name for each field
 unfoldable pub header : List ℕ
 header = text "entry record word words sections data\n"
 
@@ -38,6 +38,7 @@ openedRow e x =
 unfoldable pub refusedRow : ℕ → ℕ → List ℕ
 refusedRow e n = decimalOf e ++ refusedOf n
 
+-- the row of entry e, as it opened or not
 unfoldable pub rowOf : ℕ → Entered → List ℕ
 rowOf e x = cond (eqb (x .refusal) 0) (openedRow e x) (refusedRow e (x .refusal))
 
@@ -50,15 +51,15 @@ rowsFrom file d addresses k (suc left) = rowOf k (enteredOf file d addresses (re
 abbrev pub rowsOf : List ℕ → DescriptorNumbers → List RecordNumber → List (List ℕ)
 rowsOf file d addresses = rowsFrom file d addresses 1 (entriesBefore (d .xnext))
 
--- the line of a refused file: `file refused` and the number
+-- a refused file has one line: `file refused` and the number
 unfoldable pub refusedFile : ℕ → List ℕ
 refusedFile n = text "file" ++ refusedOf n
 
--- the listing of validated numbers: the header and the rows
+-- validated numbers have the header, also with no entries, and the rows
 unfoldable pub entriesListing : List ℕ → DescriptorNumbers → List RecordNumber → List ℕ
 entriesListing file d addresses = header ++ joined (rowsOf file d addresses)
 
--- the listing of a file; a refused one has its one line alone
+-- the listing of a file
 unfoldable pub listingIn : List ℕ → Validated → List RecordNumber → List ℕ
 listingIn file (Refused n) addresses = refusedFile n
 listingIn file (Numbers d) addresses = entriesListing file d addresses
@@ -66,9 +67,10 @@ listingIn file (Numbers d) addresses = entriesListing file d addresses
 unfoldable pub listingOf : List ℕ → List ℕ
 listingOf file = listingIn file (validationOf file .numbers) (validationOf file .addresses)
 
--- what the program prints of its input
+-- what is said of an input over the limit
 unfoldable pub overLimit : List ℕ
 overLimit = text "input over 65536 bytes\n"
 
+-- what the program prints of its input
 unfoldable pub outputOf : List ℕ → List ℕ
 outputOf input = cond (leb (length input) 65536) (listingOf input) overLimit

@@ -1,14 +1,12 @@
--- What a listing is made of: texts and decimal numbers as bytes of ASCII, pieces set end to end, and bytes handed over in a lent buffer.
+-- What a listing is made of: texts and decimal numbers as bytes of ASCII, and pieces set end to end.
 use Prim.Native.Nat.{ℕ, zero, suc, _+_, _/_, _%_}
 use Prim.Native.Char.{code}
 use Prim.Native.String.{String, [] as none, _∷_ as _then_}
 use mathlib.Core.Bool.{cond}
 use mathlib.Core.List.{List, [], _∷_, _++_}
-use lib.ListN.{length}
-use lib.Dec.{leb, ltb}
-use Rattle.image.specs.Image.{splice}
+use lib.Dec.{ltb}
 
--- a text: the codes of its characters
+-- a text: the codes of its characters, which here are all of ASCII
 abbrev pub text : String → List ℕ
 text none = []
 text (c then s) = code c ∷ text s
@@ -20,12 +18,12 @@ space = 32
 abbrev pub newline : ℕ
 newline = 10
 
--- the decimal digits of n, no zeros in front, of a number that has k digits at most
+-- the decimal digits of a number that has k of them at most, with no zeros in front
 unfoldable pub decimalIn : ℕ → ℕ → List ℕ
 decimalIn zero n = []
 decimalIn (suc k) n = cond (ltb n 10) ((48 + n) ∷ []) (decimalIn k (n / 10) ++ ((48 + n % 10) ∷ []))
 
--- the same of any number of 64 bits: none has more than 20 digits
+-- those of any number of 64 bits: none has more than 20
 unfoldable pub decimalOf : ℕ → List ℕ
 decimalOf n = decimalIn 20 n
 
@@ -37,10 +35,3 @@ fieldOf n end = decimalOf n ++ (end ∷ [])
 abbrev pub joined : List (List ℕ) → List ℕ
 joined [] = []
 joined (x ∷ xs) = x ++ joined xs
-
--- handing bytes over in a lent buffer: where they fit, their count and the buffer that begins with them; else 0 and the buffer as it is
-unfoldable pub countIn : List ℕ → List ℕ → ℕ
-countIn bytes out = cond (leb (length bytes) (length out)) (length bytes) 0
-
-unfoldable pub filledBy : List ℕ → List ℕ → List ℕ
-filledBy bytes out = cond (leb (length bytes) (length out)) (splice out 0 bytes) out

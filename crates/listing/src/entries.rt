@@ -11,7 +11,8 @@ ghost use Prim.Native.Nat.{_+_, _≤_};
 ghost use lib.ListN.{length};
 ghost use Rattle.image.specs.Image.{splice};
 ghost use Rattle.descriptor.specs.Bounds.{Admitted};
-ghost use Rattle.listing.specs.Text.{joined, countIn, filledBy};
+ghost use Rattle.listing.specs.Text.{joined};
+ghost use Rattle.listing.specs.Buffer.{countIn, filledBy};
 ghost use Rattle.listing.specs.Listing.{rowsOf, entriesListing};
 
 // The bytes of the header.

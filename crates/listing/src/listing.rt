@@ -7,7 +7,7 @@ use descriptor::validate;
 ghost use mathlib.Core.Path.{_≡_};
 ghost use lib.ListN.{length};
 ghost use Rattle.image.specs.Image.{splice};
-ghost use Rattle.listing.specs.Text.{countIn, filledBy};
+ghost use Rattle.listing.specs.Buffer.{countIn, filledBy};
 ghost use Rattle.listing.specs.Listing.{refusedFile, listingOf, outputOf};
 
 // The most bytes of an input that is listed.
