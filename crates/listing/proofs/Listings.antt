@@ -4,7 +4,7 @@ use mathlib.Core.Path.{_≡_, refl, sym, _∙_}
 use mathlib.Core.List.{List}
 use native.Mathlib.Omega.{arith}
 use borrow.Author.Tests.{le-leb, lt-leb}
-use lib.ListN.{length, length-append}
+use lib.ListN.{length}
 use Rattle.image.specs.Image.{splice}
 use Rattle.image.proofs.Splice.{splice-adjacent}
 use Rattle.geometry.specs.declared.units.RecordNumber.{RecordNumber}
@@ -26,7 +26,8 @@ module _ (bytes out : List ℕ) (fits : length bytes ≤ length out) where
   unfolding filledBy
   fit-filled = rw (le-leb (length bytes) (length out) fits)
 
-  pub handed-over : (count : ℕ) (exit : List ℕ) → count ≡ length bytes → exit ≡ splice out 0 bytes → (count ≡ countIn bytes out) × (exit ≡ filledBy bytes out)
+  pub handed-over : (count : ℕ) (exit : List ℕ) → count ≡ length bytes → exit ≡ splice out 0 bytes
+      → (count ≡ countIn bytes out) × (exit ≡ filledBy bytes out)
   handed-over count exit e x = (e ∙ sym fit-count, x ∙ sym fit-filled)
 
 -- and bytes that do not

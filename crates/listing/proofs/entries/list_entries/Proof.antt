@@ -49,8 +49,8 @@ returns-2 c =
     let a = else .before .before .before .before .args in
     let n = length-entries (a .file .now) (a .d) (a .addresses) in
     let rows = else .before .rows-length .ensures in
-    handed-over (entriesListing (a .file .now) (a .d) (a .addresses)) (now (a .out)) (omega (arith, n, rows, else .if1 .left)) (38 + else .before .rows-length .result)
-    (c .before .before .put-rows .last .1 .1 .1 .0) (omega (arith, n, rows))
+    handed-over (entriesListing (a .file .now) (a .d) (a .addresses)) (now (a .out)) (omega (arith, n, rows, else .if1 .left))
+    (38 + else .before .rows-length .result) (c .before .before .put-rows .last .1 .1 .1 .0) (omega (arith, n, rows))
     ((rw (first .put .ensures) at (c .before .before .put-rows .ensures)) ∙ entries-laid (a .file .now) (a .d) (a .addresses) (now (a .out)))
 
 pub list-entries-spec : {M : Type 1} → statement M

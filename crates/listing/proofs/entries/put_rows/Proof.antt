@@ -1,9 +1,8 @@
 -- `listing::entries::put_rows` meets its contract.
 -- The loop's invariant: with the rows that are left written from `next` on, the buffer holds all rows. Assumes nothing.
 use Prim.Native.Nat.{_+_, _-_, _≤_}
-use mathlib.Core.Path.{_≡_, refl, sym, ap, _∙_}
+use mathlib.Core.Path.{_≡_, refl, _∙_}
 use native.Mathlib.Omega.{arith}
-use borrow.Author.Needs.{needs}
 use denote.Ref.{now}
 use lib.ListN.{length}
 use Rattle.image.specs.Image.{splice}

@@ -40,7 +40,8 @@ list-entries-requires : tie.Need-list-entries-requires
 list-entries-requires c κs =
     let case = c .before .before .before in
     let v = case .before .before in
-    told (v .before .before .before .args .file .now) (v .validate .result) (case .case .given .0 .0) (v .validate .ensures) (case .case .given .1) .admitted
+    told (v .before .before .before .args .file .now) (v .validate .result) (case .case .given .0 .0) (v .validate .ensures)
+    (case .case .given .1) .admitted
 
 same-length-2 : tie.Need-same-length-2
 same-length-2 c = search needs

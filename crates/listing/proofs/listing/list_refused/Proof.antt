@@ -39,14 +39,13 @@ same-length c = search needs
 
 returns-2 : tie.Need-returns-2
 returns-2 c =
-    let line = c .before .before .put-refused2 .ensures in
+    let line = c .before .before .put-refused2 in
     let word = c .before .before .before .before .before .before in
     let p = word .before .before .before .before .before in
     let a = p .before .before .before .args in
-    let bytes = refusedFile (a .refusal) in
     let n = length-refused-file (a .refusal) in
-    handed-over bytes (now (a .out)) (omega (arith, n, p .put-refused .ensures .0)) (c .before .before .put-refused2 .result) (c .before .before .put-refused2 .last .0)
-    (omega (arith, n, line .0)) ((rw (word .put .ensures) at (line .1)) ∙ refused-laid (a .refusal) (now (a .out)))
+    handed-over (refusedFile (a .refusal)) (now (a .out)) (omega (arith, n, p .put-refused .ensures .0)) (line .result) (line .last .0)
+    (omega (arith, n, line .ensures .0)) ((rw (word .put .ensures) at (line .ensures .1)) ∙ refused-laid (a .refusal) (now (a .out)))
 
 pub list-refused-spec : {M : Type 1} → statement M
 list-refused-spec =

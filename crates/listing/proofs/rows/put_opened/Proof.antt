@@ -74,7 +74,8 @@ returns c =
     let f₅ = p₅ .put-field5 .ensures in
     let f₆ = p₆ .put-field6 .ensures in (
       omega (arith, length-opened (a .number .0) (a .entered), f₁ .0, f₂ .0, f₃ .0, f₄ .0, f₅ .0, f₆ .0),
-      opened-laid (a .number .0) (a .entered) (now (a .out)) (a .at) (f₁ .1) (f₁ .0) (f₂ .1) (f₂ .0) (f₃ .1) (f₃ .0) (f₄ .1) (f₄ .0) (f₅ .1) (f₅ .0) (f₆ .1),
+      opened-laid (a .number .0) (a .entered) (now (a .out)) (a .at) (f₁ .1) (f₁ .0) (f₂ .1) (f₂ .0) (f₃ .1) (f₃ .0)
+          (f₄ .1) (f₄ .0) (f₅ .1) (f₅ .0) (f₆ .1),
     )
 
 pub put-opened-spec : {M : Type 1} → statement M

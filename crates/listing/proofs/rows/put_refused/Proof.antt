@@ -33,7 +33,8 @@ returns c =
     let word = c .before .before .before .before .before .before in
     let a = word .before .before .before .before .args in (
       omega (arith, length-refused (a .refusal)),
-      (rw (word .put .ensures) at (field .1)) ∙ splice-adjacent (now (a .out)) (a .at) (text " refused ") (a .at + 9) (fieldOf (a .refusal) newline) refl,
+      (rw (word .put .ensures) at (field .1))
+          ∙ splice-adjacent (now (a .out)) (a .at) (text " refused ") (a .at + 9) (fieldOf (a .refusal) newline) refl,
     )
 
 pub put-refused-spec : {M : Type 1} → statement M

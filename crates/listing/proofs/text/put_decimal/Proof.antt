@@ -1,9 +1,8 @@
 -- `listing::text::put_decimal` meets its contract: the digits are those that `io::decimal` gives. Assumes nothing.
-use mathlib.Core.Path.{_≡_, sym, ap, _∙_}
+use mathlib.Core.Path.{_≡_, ap, _∙_}
 use native.Mathlib.Omega.{arith}
 use lib.ListN.{length, take}
 use borrow.Author.Needs.{needs}
-use Rattle.image.specs.Image.{splice}
 use Rattle.listing.specs.Text.{decimalOf}
 use Rattle.listing.proofs.Decimal.{decimal-digits}
 use Rattle.listing.proofs.text.put_decimal.Statement.{statement}
