@@ -1,0 +1,57 @@
+// The lines of a listing: the row of an entry, and how long it is.
+use super::text::put_decimal;
+use super::text::put_field;
+use entry::Entered;
+use geometry::EntryNumber;
+ghost use mathlib.Core.Path.{_≡_};
+ghost use Prim.Native.Nat.{_+_, _≤_};
+ghost use lib.ListN.{length};
+ghost use Rattle.image.specs.Image.{splice};
+ghost use Rattle.listing.specs.Listing.{refusedOf, openedRow, refusedRow, rowOf};
+
+// Writes the end of a line that tells a refusal.
+pub(crate) fn put_refused(out: &mut [u8], at: usize, refusal: u32) -> usize
+    requires { ⌜ at + length (refusedOf refusal) ≤ length (now out) ⌝ }
+    ensures behind { λ r. ⌜ r ≡ at + length (refusedOf refusal) ⌝ }
+    ensures bytes { λ r. ⌜ now (out .exit) ≡ splice (now (out .entry)) at (refusedOf refusal) ⌝ }
+{
+    image::put(out, at, b" refused ");
+    put_field(out, at + 9, refusal as u64, b'\n')
+}
+
+// Writes the row of an entry that opened.
+fn put_opened(out: &mut [u8], at: usize, number: EntryNumber, entered: Entered) -> usize
+    requires { ⌜ at + length (openedRow (number .0) entered) ≤ length (now out) ⌝ }
+    ensures behind { λ r. ⌜ r ≡ at + length (openedRow (number .0) entered) ⌝ }
+    ensures bytes { λ r. ⌜ now (out .exit) ≡ splice (now (out .entry)) at (openedRow (number .0) entered) ⌝ }
+{
+    let place = entered.place;
+    let array = entered.array;
+    let record = put_field(out, at, number.0, b' ');
+    let word = put_field(out, record, place.record.0, b' ');
+    let nword = put_field(out, word, place.word.0, b' ');
+    let nsec = put_field(out, nword, entered.nword, b' ');
+    let ldata = put_field(out, nsec, entered.nsec, b' ');
+    put_field(out, ldata, array.words, b'\n')
+}
+
+// Writes the row of an entry, and answers the offset behind it.
+pub(crate) fn put_row(out: &mut [u8], at: usize, number: EntryNumber, entered: Entered) -> usize
+    requires { ⌜ at + length (rowOf (number .0) entered) ≤ length (now out) ⌝ }
+    ensures behind { λ r. ⌜ r ≡ at + length (rowOf (number .0) entered) ⌝ }
+    ensures bytes { λ r. ⌜ now (out .exit) ≡ splice (now (out .entry)) at (rowOf (number .0) entered) ⌝ }
+{
+    if entered.refusal == 0 {
+        return put_opened(out, at, number, entered);
+    }
+    let behind = put_decimal(out, at, number.0);
+    put_refused(out, behind, entered.refusal)
+}
+
+// The length of an entry's row.
+pub(crate) fn row_length(number: EntryNumber, entered: Entered) -> usize
+    ensures { λ r. ⌜ r ≡ length (rowOf (number .0) entered) ⌝ }
+{
+    let mut line = [0u8; 126];
+    put_row(&mut line, 0, number, entered)
+}
