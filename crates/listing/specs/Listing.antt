@@ -4,6 +4,8 @@ use mathlib.Core.Bool.{cond}
 use mathlib.Core.List.{List, [], _∷_, _++_}
 use lib.ListN.{length}
 use lib.Dec.{leb, eqb}
+use Rattle.outcome.specs.Outcome.{AnswersAndLeaves}
+use Rattle.image.specs.Image.{splice}
 use Rattle.geometry.specs.declared.units.RecordNumber.{RecordNumber}
 use Rattle.geometry.specs.Units.{entriesBefore}
 use Rattle.descriptor.specs.declared.numbers.DescriptorNumbers.{DescriptorNumbers}
@@ -12,6 +14,7 @@ use Rattle.descriptor.specs.declared.validating.Validated.the-variants.{Numbers
 use Rattle.descriptor.specs.Answers.{validationOf}
 use Rattle.entry.specs.declared.opening.Entered.{Entered}
 use Rattle.entry.specs.Opening.{enteredOf}
+use Rattle.listing.specs.Buffer.{HandsOver}
 use Rattle.listing.specs.Text.{text, space, newline, decimalOf, fieldOf, joined}
 
 -- the header: a name for each field
@@ -74,3 +77,11 @@ overLimit = text "input over 65536 bytes\n"
 -- what the program prints of its input
 unfoldable pub outputOf : List ℕ → List ℕ
 outputOf input = cond (leb (length input) 65536) (listingOf input) overLimit
+
+-- what `list_file` promises: the listing in the lent buffer, where it fits
+abbrev pub Lists : List ℕ → List ℕ → ℕ → List ℕ → Type 0
+Lists file out answer after = HandsOver (listingOf file) out answer after
+
+-- and `list_input`, whose buffer holds what is printed of any input
+abbrev pub Prints : List ℕ → List ℕ → ℕ → List ℕ → Type 0
+Prints input out answer after = AnswersAndLeaves (length (outputOf input)) (splice out 0 (outputOf input)) answer after

@@ -6,13 +6,13 @@ use entry::inner::enter;
 use geometry::EntryNumber;
 use geometry::RecordNumber;
 use geometry::entries_before;
-ghost use mathlib.Core.Path.{_≡_};
 ghost use Prim.Native.Nat.{_+_, _≤_};
 ghost use lib.ListN.{length};
+ghost use Rattle.outcome.specs.Outcome.{Answers, Leaves};
 ghost use Rattle.image.specs.Image.{splice};
 ghost use Rattle.descriptor.specs.Bounds.{Admitted};
 ghost use Rattle.listing.specs.Text.{joined};
-ghost use Rattle.listing.specs.Buffer.{countIn, filledBy};
+ghost use Rattle.listing.specs.Buffer.{HandsOver};
 ghost use Rattle.listing.specs.Listing.{rowsOf, entriesListing};
 
 // The bytes of the header.
@@ -21,7 +21,7 @@ const HEADER_LENGTH: usize = 38;
 // The length of all rows together: each entry is opened, and its row measured.
 fn rows_length(file: &[u8], d: DescriptorNumbers, addresses: [RecordNumber; 16]) -> usize
     requires { ⌜ Admitted (length (now file)) d addresses ⌝ }
-    ensures { λ r. ⌜ r ≡ length (joined (rowsOf (now (file .entry)) d addresses)) ⌝ }
+    ensures { λ r. ⌜ Answers (length (joined (rowsOf (now (file .entry)) d addresses))) r ⌝ }
 {
     let entries = entries_before(d.xnext);
     let mut sum = 0;
@@ -44,7 +44,7 @@ fn put_rows(
     at: usize,
 )
     requires { ⌜ Admitted (length (now file)) d addresses × (at + length (joined (rowsOf (now file) d addresses)) ≤ length (now out)) ⌝ }
-    ensures { λ _. ⌜ now (out .exit) ≡ splice (now (out .entry)) at (joined (rowsOf (now (file .entry)) d addresses)) ⌝ }
+    ensures { λ _. ⌜ Leaves (splice (now (out .entry)) at (joined (rowsOf (now (file .entry)) d addresses))) (now (out .exit)) ⌝ }
 {
     let entries = entries_before(d.xnext);
     let mut next = at;
@@ -65,8 +65,7 @@ pub(crate) fn list_entries(
     out: &mut [u8],
 ) -> usize
     requires { ⌜ Admitted (length (now file)) d addresses ⌝ }
-    ensures answer { λ r. ⌜ r ≡ countIn (entriesListing (now (file .entry)) d addresses) (now (out .entry)) ⌝ }
-    ensures bytes { λ r. ⌜ now (out .exit) ≡ filledBy (entriesListing (now (file .entry)) d addresses) (now (out .entry)) ⌝ }
+    ensures { λ r. ⌜ HandsOver (entriesListing (now (file .entry)) d addresses) (now (out .entry)) r (now (out .exit)) ⌝ }
 {
     let count = HEADER_LENGTH + rows_length(file, d, addresses);
     if out.len() < count {

@@ -4,11 +4,8 @@ use super::rows::put_refused;
 use descriptor::Validated;
 use descriptor::refusal_of;
 use descriptor::validate;
-ghost use mathlib.Core.Path.{_≡_};
-ghost use lib.ListN.{length};
-ghost use Rattle.image.specs.Image.{splice};
-ghost use Rattle.listing.specs.Buffer.{countIn, filledBy};
-ghost use Rattle.listing.specs.Listing.{refusedFile, listingOf, outputOf};
+ghost use Rattle.listing.specs.Buffer.{HandsOver};
+ghost use Rattle.listing.specs.Listing.{refusedFile, Lists, Prints};
 
 // The most bytes of an input that is listed.
 pub const INPUT_MAX: usize = 65536;
@@ -18,8 +15,7 @@ pub const OUTPUT_ROOM: usize = 196608;
 
 // Writes the line of a refused file, if the buffer is long enough for it. The line is measured in one that is.
 fn list_refused(refusal: u32, out: &mut [u8]) -> usize
-    ensures answer { λ r. ⌜ r ≡ countIn (refusedFile refusal) (now (out .entry)) ⌝ }
-    ensures bytes { λ r. ⌜ now (out .exit) ≡ filledBy (refusedFile refusal) (now (out .entry)) ⌝ }
+    ensures { λ r. ⌜ HandsOver (refusedFile refusal) (now (out .entry)) r (now (out .exit)) ⌝ }
 {
     let mut line = [0u8; 34];
     let count = put_refused(&mut line, 4, refusal);
@@ -33,8 +29,7 @@ fn list_refused(refusal: u32, out: &mut [u8]) -> usize
 // Writes the listing of a file to the start of a lent buffer and answers its length; a buffer that is too
 // short is left as it is, and the answer is 0.
 pub fn list_file(file: &[u8], out: &mut [u8]) -> usize
-    ensures answer { λ r. ⌜ r ≡ countIn (listingOf (now (file .entry))) (now (out .entry)) ⌝ }
-    ensures bytes { λ r. ⌜ now (out .exit) ≡ filledBy (listingOf (now (file .entry))) (now (out .entry)) ⌝ }
+    ensures { λ r. ⌜ Lists (now (file .entry)) (now (out .entry)) r (now (out .exit)) ⌝ }
 {
     let validation = validate(file);
     let case = validation.numbers;
@@ -47,8 +42,7 @@ pub fn list_file(file: &[u8], out: &mut [u8]) -> usize
 
 // Writes what the program prints of its input, and answers how many bytes that is.
 pub fn list_input(input: &[u8], out: &mut [u8; OUTPUT_ROOM]) -> usize
-    ensures answer { λ r. ⌜ r ≡ length (outputOf (now (input .entry))) ⌝ }
-    ensures bytes { λ r. ⌜ now (out .exit) ≡ splice (now (out .entry)) 0 (outputOf (now (input .entry))) ⌝ }
+    ensures { λ r. ⌜ Prints (now (input .entry)) (now (out .entry)) r (now (out .exit)) ⌝ }
 {
     if INPUT_MAX < input.len() {
         image::put(out, 0, b"input over 65536 bytes\n");
