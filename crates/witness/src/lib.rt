@@ -6,12 +6,23 @@
 use writer::Appended;
 use writer::append;
 ghost use Rattle.writer.specs.Handed.{handedIn};
-ghost use Rattle.witness.specs.Twice.{AppendsTwice};
+ghost use Rattle.witness.specs.Twice.{AllIntegers, AppendsTwice};
 
 // What two appends answer.
 pub struct Twice {
     pub first: Appended,
     pub second: Appended,
+}
+
+// Reads identifiers one by one, and so shows that each is an Integer*4.
+fn read_identifiers(ids: &[i32])
+    ensures { λ _. ⌜ AllIntegers (now (ids .entry)) ⌝ }
+{
+    let mut done = 0;
+    while done < ids.len() {
+        let _identifier = ids[done];
+        done += 1;
+    }
 }
 
 // Appends an entry, and then another.
@@ -32,6 +43,8 @@ pub fn append_twice(
 ) -> Twice
     ensures { λ r. ⌜ AppendsTwice (now (file .entry)) (now (file .exit)) (handedIn version (now (index .entry)) (now (ids .entry)) (now (lengths .entry)) (now (sections .entry)) (now (values .entry))) (handedIn «next_version» (now («next_index» .entry)) (now («next_ids» .entry)) (now («next_lengths» .entry)) (now («next_sections» .entry)) (now («next_values» .entry))) r ⌝ }
 {
+    read_identifiers(ids);
+    read_identifiers(next_ids);
     let first = append(file, version, index, ids, lengths, sections, values);
     let second = append(
         file,

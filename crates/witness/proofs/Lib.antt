@@ -1,0 +1,2 @@
+-- The laws of `witness`.
+mod Promised
