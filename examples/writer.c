@@ -97,8 +97,8 @@ static void write_a_and_d(const char *folder) {
 /* b.classic: three extensions of 2, 3 and 4 entries; the index of entry 9 crosses a record's end. */
 static void write_b(const char *folder) {
     static const addition additions[] = {
-        {1, 1, {7}, {3}, 5},       {1, 0, {0}, {0}, 12},     {2, 2, {-3, 4}, {2, 6}, 4},
-        {2, 0, {0}, {0}, 0},       {1, 1, {7}, {4}, 0},      {3, 2, {7, -3}, {1, 1}, 10},
+        {1, 1, {7}, {3}, 5},         {1, 0, {0}, {0}, 12},     {2, 2, {-3, 4}, {2, 6}, 4},
+        {2, 0, {0}, {0}, 0},         {1, 1, {7}, {4}, 0},      {3, 2, {7, -3}, {1, 1}, 10},
         {1, 2, {-2, -3}, {5, 1}, 1}, {0, 1, {100000}, {2}, 6}, {-1, 1, {7}, {3}, 5},
     };
     create(20, (classic_settings){20, 1, 2, 6, 1, 2, 15});
@@ -106,7 +106,7 @@ static void write_b(const char *folder) {
     save(folder, "b.classic", bytes);
 }
 
-/* c.classic: six entries, four of them damaged. The index is damaged last, since a damaged one names no entry. */
+/* c.classic: six entries, four of them damaged: an entry code, an xnum, an ldata, and the record in an index. */
 static void write_c(const char *folder) {
     static const addition additions[] = {
         {1, 1, {7}, {3}, 5}, {1, 0, {0}, {0}, 0}, {1, 1, {7}, {3}, 8},

@@ -176,9 +176,9 @@ static void append(uint8_t *file, size_t bytes, const addition *a, int64_t entry
     int64_t index_words = own->settings.lind - 3;
     uint8_t *index = bytes_of(a->index, index_words), *sections = bytes_of(a->sections, a->section_words);
     uint8_t *data = bytes_of(a->data, a->ldata);
-    classic_appended appended = classic_append(
-        file, bytes, a->version, index, (size_t)(4 * index_words), a->ids, (size_t)a->nsec, a->lengths, (size_t)a->nsec,
-        sections, (size_t)(4 * a->section_words), data, (size_t)(4 * a->ldata));
+    classic_appended appended =
+        classic_append(file, bytes, a->version, index, (size_t)(4 * index_words), a->ids, (size_t)a->nsec, a->lengths,
+                       (size_t)a->nsec, sections, (size_t)(4 * a->section_words), data, (size_t)(4 * a->ldata));
     if (appended.refusal != 0) give_up("the append is refused", appended.refusal);
     if (appended.number != (uint64_t)entry) give_up("the append gives another number", 0);
     free(index);

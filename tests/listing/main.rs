@@ -156,7 +156,7 @@ impl Comparison {
     fn judge(&self) -> usize {
         let mut failed = 0;
         let mut test = |name: &str, passed: bool, said: &str| {
-            println!("{} ({said})", if passed { format!("ok {name}") } else { format!("FAILED {name}") });
+            println!("{}", if passed { format!("ok {name} ({said})") } else { format!("FAILED {name}: {said}") });
             failed += !passed as usize;
         };
         for (kind, (name, ..)) in PLAN.iter().enumerate() {
