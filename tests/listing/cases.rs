@@ -171,7 +171,7 @@ fn great_settings(reclen: i32, lind: i32, lex1: i32) -> Settings {
 
 /// A file with hundreds of entries.
 fn hundreds(random: &mut Random) -> Vec<u8> {
-    let (reclen, lex1) = (random.pick(&[16, 17, 20, 32, 128]), random.pick(&[300, 900, 1150]));
+    let (reclen, lex1) = (random.pick(&[16, 17, 20, 32, 128]), random.pick(&[300, 500, 700]));
     let shape = Shape {
         settings: great_settings(reclen, 3, lex1),
         entries: random.from(lex1 as usize / 2, lex1 as usize),
