@@ -105,7 +105,8 @@ impl Comparison {
         for number in 1.. {
             let (our, their) = (ours.next(), theirs.next());
             if our != their {
-                println!("    line {number} is {:?} by the program, {:?} by 01", their, our);
+                let line = |text: Option<&str>| text.map_or("not there".to_string(), |text| format!("'{text}'"));
+                println!("    line {number} is {} by the program, {} by 01", line(their), line(our));
                 break;
             }
             if our.is_none() {
@@ -138,11 +139,15 @@ impl Comparison {
         if expected == listing::HEADER {
             sorts.push("no entries".to_string());
         }
-        if expected.starts_with(listing::HEADER) && input.len() == 65536 {
+        let listed = expected.starts_with(listing::HEADER);
+        if listed && input.len() == 65536 {
             sorts.push("65536 bytes listed".to_string());
         }
         if input.len() == 65537 {
             sorts.push("65537 bytes".to_string());
+        }
+        if listed && expected.split_whitespace().any(|word| word.parse::<u64>().is_ok_and(|number| number >= 10000)) {
+            sorts.push("a number of five digits".to_string());
         }
         if expected.lines().count() > 5001 {
             sorts.push("over 5000 entries".to_string());
@@ -191,8 +196,9 @@ fn sort(line: &str) -> String {
 fn sorts() -> Vec<String> {
     let mut sorts: Vec<String> = (1..=11).map(|number| format!("file refused {number}")).collect();
     sorts.extend((13..=19).map(|number| format!("entry refused {number}")));
-    let others = ["entry listed", "no entries", "over 5000 entries", "65536 bytes listed", "65537 bytes"];
+    let others = ["entry listed", "no entries", "a number of five digits", "over 5000 entries"];
     sorts.extend(others.map(String::from));
+    sorts.extend(["65536 bytes listed", "65537 bytes"].map(String::from));
     sorts
 }
 
