@@ -118,19 +118,21 @@ fn damaged_first_record(random: &mut Random) -> Vec<u8> {
     bytes
 }
 
-/// A file created and appended to by the independent implementation until it is full, with data of any size.
+/// A file created and appended to by the independent implementation, with data of any size, sometimes great from the
+/// start.
 fn appended(random: &mut Random) -> Vec<u8> {
     let settings = files::settings(random);
     let record = 4 * settings.reclen as usize;
-    let records = random.from(1, (LIMIT / record).max(1));
+    let great = random.once_in(4);
+    let records = if great { LIMIT / record } else { random.from(1, LIMIT / record) };
     let mut bytes = random.bytes(record * records);
     if reference::create(&mut bytes, &settings).is_err() {
         return bytes;
     }
     let most_data = random.pick(&[0, 10, 300, 5000, 16000]);
-    for _ in 0..random.from(1, 60) {
+    for i in 0..random.from(1, 60) {
         let mut a: Addition = addition(random, settings.lind);
-        let data_words = random.from(0, most_data);
+        let data_words = if great && i == 0 { random.from(9000, 14000) } else { random.from(0, most_data) };
         a.data = random.bytes(4 * data_words);
         if reference::append(&mut bytes, &a).is_err() && random.once_in(3) {
             break;
