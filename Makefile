@@ -1,10 +1,13 @@
 # The commands of this repository; make alone lists them.
-.PHONY: help lib test
+.PHONY: help lib list examples test
 
 help:
-	@echo 'make help  list these targets'
-	@echo 'make lib   prove the library and write target/lib/libclassic.a and libclassic.so, for C on x86-64 to link'
-	@echo 'make test  prove every crate from nothing, then run every outside test (tests/*/run)'
+	@echo 'make help       list these targets'
+	@echo 'make lib        prove the library and write target/lib/libclassic.a and libclassic.so, for C on x86-64 to link'
+	@echo 'make list FILE=examples/a.classic'
+	@echo '                prove and build the listing program, where that is not done yet, and list a file'
+	@echo 'make examples   write the files of examples/ again'
+	@echo 'make test       prove every crate from nothing, then run every outside test (tests/*/run)'
 
 # The linker is the kit's; the kit stands two levels above the guide that rt doc names.
 lib:
@@ -13,6 +16,20 @@ lib:
 	@cp target/staticlib/libclassic.a target/lib/libclassic.a
 	@"$$(dirname "$$(dirname "$$(rt doc)")")/on/$$(uname -m)/toolchain/bin/ld.lld" -m elf_x86_64 -shared \
 		-soname libclassic.so --whole-archive target/lib/libclassic.a -o target/lib/libclassic.so
+
+# A program runs with the loader and the C library of the kit, and on Arm under the kit's emulator.
+list:
+	@if [ -z "$$FILE" ]; then echo 'usage: make list FILE=examples/a.classic' >&2; exit 2; fi
+	@if [ -d "$$FILE" ] || ! [ -r "$$FILE" ]; then echo "make list: $$FILE is not there or cannot be read" >&2; exit 2; fi
+	@mkdir -p target
+	@rt check list >target/list.log 2>&1 || { cat target/list.log >&2; exit 1; }
+	@tools=$$(dirname "$$(dirname "$$(rt doc)")")/on/$$(uname -m)/toolchain; \
+		set -- "$$tools/lib/ld-linux-x86-64.so.2" --library-path "$$tools/lib" target/bin/list; \
+		if [ -x "$$tools/bin/qemu-x86_64" ]; then set -- "$$tools/bin/qemu-x86_64" "$$@"; fi; \
+		"$$@" <"$$FILE"
+
+examples:
+	@examples/write
 
 test:
 	@tests/run

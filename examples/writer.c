@@ -1,0 +1,130 @@
+/* Writes the examples by the library: a.classic to d.classic in a folder. README.md says what each is.
+   Usage: writer FOLDER */
+#include "classic.h"
+
+#include <inttypes.h>
+#include <stdio.h>
+#include <stdlib.h>
+#include <string.h>
+
+/* What an entry is given: its version, sections of these identifiers and lengths, and so many words of data. */
+typedef struct {
+    int32_t version;
+    size_t nsec;
+    int32_t ids[2];
+    int64_t lengths[2];
+    size_t ldata;
+} addition;
+
+/* The file at hand. No example is larger. */
+static uint8_t file[4096];
+static size_t bytes, reclen, lind;
+
+/* Ends the program with a message. */
+static void give_up(const char *what, uint32_t refusal) {
+    fprintf(stderr, "writer: %s (refusal %" PRIu32 ")\n", what, refusal);
+    exit(1);
+}
+
+/* Writes an Integer*4 at a byte of an image. */
+static void put4(uint8_t *at, uint32_t value) {
+    for (int i = 0; i < 4; i++) at[i] = (uint8_t)(value >> 8 * i);
+}
+
+/* Writes words that count up from a first one. */
+static void count_up(uint8_t *at, size_t words, uint32_t first) {
+    for (size_t i = 0; i < words; i++) put4(at + 4 * i, first + (uint32_t)i);
+}
+
+/* Creates the file with so many records. */
+static void create(size_t records, classic_settings settings) {
+    reclen = (size_t)settings.reclen;
+    lind = (size_t)settings.lind;
+    bytes = 4 * reclen * records;
+    memset(file, 0, sizeof file);
+    uint32_t refusal = classic_create(file, bytes, settings);
+    if (refusal != 0) give_up("the creation is refused", refusal);
+}
+
+/* Appends entries. The index words of entry k count up from 100 k, its sections from 1,000 k and its data from
+   10,000 k. */
+static void append(const addition *additions, uint32_t count) {
+    uint8_t index[64], sections[64], data[64];
+    for (uint32_t k = 1; k <= count; k++) {
+        const addition *a = &additions[k - 1];
+        size_t words = 0;
+        for (size_t i = 0; i < a->nsec; i++) words += (size_t)a->lengths[i];
+        count_up(index, lind - 3, 100 * k);
+        count_up(sections, words, 1000 * k);
+        count_up(data, a->ldata, 10000 * k);
+        classic_appended appended = classic_append(file, bytes, a->version, index, 4 * (lind - 3), a->ids, a->nsec,
+                                                   a->lengths, a->nsec, sections, 4 * words, data, 4 * a->ldata);
+        if (appended.refusal != 0) give_up("an append is refused", appended.refusal);
+    }
+}
+
+/* Writes the first bytes of the file to a name in a folder. */
+static void save(const char *folder, const char *name, size_t count) {
+    char path[4096];
+    snprintf(path, sizeof path, "%s/%s", folder, name);
+    FILE *to = fopen(path, "wb");
+    if (to == NULL || fwrite(file, 1, count, to) != count || fclose(to) != 0) give_up("a file cannot be written", 0);
+}
+
+/* A word of an entry, counted from 1, in the file's bytes. */
+static uint8_t *word_of(uint64_t entry, size_t word) {
+    classic_entry e = classic_open(file, bytes, entry);
+    if (e.refusal != 0) give_up("an entry is refused", e.refusal);
+    return file + 4 * ((e.record - 1) * reclen + (e.word - 1) + (word - 1));
+}
+
+/* A word of an entry's index, counted from 1, in the file's bytes. */
+static uint8_t *index_word_of(uint64_t entry, size_t word) {
+    classic_part application = classic_index_words(file, bytes, entry);
+    if (application.refusal != 0) give_up("an entry is refused", application.refusal);
+    return file + application.start - 4 * 3 + 4 * (word - 1);
+}
+
+/* a.classic, file A of document 01; d.classic is the same with its last record lost. */
+static void write_a_and_d(const char *folder) {
+    static const addition additions[] = {{1, 1, {7}, {3}, 5}, {1, 0, {0}, {0}, 0}, {1, 0, {0}, {0}, 0}};
+    create(6, (classic_settings){20, 1, 2, 4, 0, 2, 20});
+    append(additions, 3);
+    save(folder, "a.classic", bytes);
+    save(folder, "d.classic", bytes - 4 * reclen);
+}
+
+/* b.classic: three extensions of 2, 3 and 4 entries; the index of entry 9 crosses a record's end. */
+static void write_b(const char *folder) {
+    static const addition additions[] = {
+        {1, 1, {7}, {3}, 5},         {1, 0, {0}, {0}, 12},     {2, 2, {-3, 4}, {2, 6}, 4},
+        {2, 0, {0}, {0}, 0},         {1, 1, {7}, {4}, 0},      {3, 2, {7, -3}, {1, 1}, 10},
+        {1, 2, {-2, -3}, {5, 1}, 1}, {0, 1, {100000}, {2}, 6}, {-1, 1, {7}, {3}, 5},
+    };
+    create(20, (classic_settings){20, 1, 2, 6, 1, 2, 15});
+    append(additions, 9);
+    save(folder, "b.classic", bytes);
+}
+
+/* c.classic: six entries, four of them damaged: an entry code, an xnum, an ldata, and the record in an index. */
+static void write_c(const char *folder) {
+    static const addition additions[] = {
+        {1, 1, {7}, {3}, 5}, {1, 0, {0}, {0}, 0}, {1, 1, {7}, {3}, 8},
+        {1, 0, {0}, {0}, 4}, {1, 1, {7}, {3}, 5}, {1, 0, {0}, {0}, 2},
+    };
+    create(12, (classic_settings){20, 1, 2, 4, 0, 6, 10});
+    append(additions, 6);
+    put4(word_of(2, 1), 0);
+    put4(word_of(4, 10), 3);
+    put4(word_of(5, 8), 6);
+    put4(index_word_of(6, 2), 1);
+    save(folder, "c.classic", bytes);
+}
+
+int main(int argc, char **argv) {
+    if (argc != 2) give_up("usage: writer FOLDER", 0);
+    write_a_and_d(argv[1]);
+    write_b(argv[1]);
+    write_c(argv[1]);
+    return 0;
+}

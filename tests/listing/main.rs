@@ -1,0 +1,252 @@
+//! The comparison of the listing program with a plain listing of its own.
+//! Usage: listing [--seed N] [--case K] PROGRAM...: all cases of a seed, or one, with the command that runs the program.
+//! Or: listing --list FILE: prints the plain listing of a file.
+
+#[allow(dead_code)]
+#[path = "../compare/additions.rs"]
+mod additions;
+mod cases;
+#[allow(dead_code)]
+#[path = "../compare/damage.rs"]
+mod damage;
+#[allow(dead_code)]
+#[path = "../compare/files.rs"]
+mod files;
+mod listing;
+#[allow(dead_code)]
+#[path = "../compare/random.rs"]
+mod random;
+#[allow(dead_code)]
+#[path = "../compare/reference.rs"]
+mod reference;
+
+use cases::PLAN;
+use std::collections::BTreeMap;
+use std::fs;
+use std::process::{exit, Command};
+
+/// Where the input of the program is put.
+const FOLDER: &str = "target/listing";
+
+/// Differences after this many are counted and not printed.
+const SHOWN: usize = 20;
+
+/// The inputs that a run must compare at least.
+const ENOUGH: usize = 2000;
+
+/// What the command line asks for.
+#[derive(Default)]
+struct Options {
+    seed: u64,
+    case: Option<usize>,
+    list: Option<String>,
+    program: Vec<String>,
+}
+
+/// What was compared and what differed so far, by the kinds of PLAN; and how often each sort of line was seen.
+struct Comparison {
+    options: Options,
+    differing: [usize; PLAN.len()],
+    compared: [usize; PLAN.len()],
+    lines: BTreeMap<String, usize>,
+}
+
+/// What a run of the program gave.
+struct Given {
+    listing: String,
+    said: String,
+    ended_well: bool,
+}
+
+impl Comparison {
+    /// Compares every case, or the one that is asked for.
+    fn run(&mut self) -> std::io::Result<()> {
+        let chosen = match self.options.case {
+            Some(case) => case..case + 1,
+            None => 0..cases::count(),
+        };
+        for case in chosen {
+            let (kind, input) = cases::input(self.options.seed, case);
+            let expected = listing::listing(&input);
+            let given = self.list(&input)?;
+            self.compared[kind] += 1;
+            if given.listing != expected || !given.ended_well || !given.said.is_empty() {
+                self.differing[kind] += 1;
+                self.show(case, kind, &expected, &given);
+            }
+            self.keep(case, &input, &expected, &given)?;
+            self.count_lines(&input, &expected);
+        }
+        Ok(())
+    }
+
+    /// Runs the program on an input.
+    fn list(&self, input: &[u8]) -> std::io::Result<Given> {
+        let name = format!("{FOLDER}/input");
+        fs::write(&name, input)?;
+        let program = &self.options.program;
+        let output = Command::new(&program[0]).args(&program[1..]).stdin(fs::File::open(&name)?).output()?;
+        Ok(Given {
+            listing: String::from_utf8_lossy(&output.stdout).into_owned(),
+            said: String::from_utf8_lossy(&output.stderr).into_owned(),
+            ended_well: output.status.success(),
+        })
+    }
+
+    /// Prints a difference, unless there were many: the first line that differs, and the command that repeats it.
+    fn show(&self, case: usize, kind: usize, expected: &str, given: &Given) {
+        let shown: usize = self.differing.iter().sum();
+        if shown > SHOWN {
+            return;
+        }
+        let seed = self.options.seed;
+        println!("DIFFERENCE in case {case} of seed {seed} ({}):", PLAN[kind].0);
+        let (mut ours, mut theirs) = (expected.split('\n'), given.listing.split('\n'));
+        for number in 1.. {
+            let (our, their) = (ours.next(), theirs.next());
+            if our != their {
+                let line = |text: Option<&str>| text.map_or("not there".to_string(), |text| format!("'{text}'"));
+                println!("    line {number} is {} by the program, {} by 01", line(their), line(our));
+                break;
+            }
+            if our.is_none() {
+                println!("    it ended well: {}; it said: {:?}", given.ended_well, given.said);
+                break;
+            }
+        }
+        println!("    repeat: tests/listing/run --seed {seed} --case {case}");
+        if shown == SHOWN {
+            println!("(further differences are counted, not printed)");
+        }
+    }
+
+    /// Keeps the input and both listings of a case that was asked for.
+    fn keep(&self, case: usize, input: &[u8], expected: &str, given: &Given) -> std::io::Result<()> {
+        if self.options.case.is_none() {
+            return Ok(());
+        }
+        let name = format!("{FOLDER}/case-{case}");
+        fs::write(&name, input)?;
+        fs::write(format!("{name}.expected"), expected)?;
+        fs::write(format!("{name}.listed"), &given.listing)?;
+        println!("{name} has the input, {name}.listed the program's listing, {name}.expected that of 01");
+        Ok(())
+    }
+
+    /// Counts the sorts of lines of a listing, and what is rare in the whole of an input.
+    fn count_lines(&mut self, input: &[u8], expected: &str) {
+        let mut sorts: Vec<String> = expected.lines().map(sort).collect();
+        if expected == listing::HEADER {
+            sorts.push("no entries".to_string());
+        }
+        let listed = expected.starts_with(listing::HEADER);
+        if listed && input.len() == 65536 {
+            sorts.push("65536 bytes listed".to_string());
+        }
+        if input.len() == 65537 {
+            sorts.push("65537 bytes".to_string());
+        }
+        if listed && expected.split_whitespace().any(|word| word.parse::<u64>().is_ok_and(|number| number >= 10000)) {
+            sorts.push("a number of five digits".to_string());
+        }
+        if expected.lines().count() > 5001 {
+            sorts.push("over 5000 entries".to_string());
+        }
+        for sort in sorts {
+            *self.lines.entry(sort).or_default() += 1;
+        }
+    }
+
+    /// Judges what was compared, a test for each kind, and how much of 01 it reached; gives the number of failed tests.
+    fn judge(&self) -> usize {
+        let mut failed = 0;
+        let mut test = |name: &str, passed: bool, said: &str| {
+            println!("{}", if passed { format!("ok {name} ({said})") } else { format!("FAILED {name}: {said}") });
+            failed += !passed as usize;
+        };
+        for (kind, (name, ..)) in PLAN.iter().enumerate() {
+            let (compared, differing) = (self.compared[kind], self.differing[kind]);
+            if compared > 0 {
+                test(name, differing == 0, &format!("{compared} inputs, {differing} differ"));
+            }
+        }
+        if self.options.case.is_none() {
+            let seen: Vec<String> = self.lines.iter().map(|(sort, count)| format!("{sort}: {count}")).collect();
+            println!("lines seen: {}", seen.join("; "));
+            let missing: Vec<String> = sorts().into_iter().filter(|sort| !self.lines.contains_key(sort)).collect();
+            test("lines", missing.is_empty(), &format!("not seen: {missing:?}"));
+            let compared: usize = self.compared.iter().sum();
+            test("count", compared >= ENOUGH, &format!("{compared} inputs, {ENOUGH} wanted"));
+        }
+        failed
+    }
+}
+
+/// The sort of a line of a listing: the line itself, or with an entry's numbers left out.
+fn sort(line: &str) -> String {
+    let words: Vec<&str> = line.split(' ').collect();
+    match words[..] {
+        [_, "refused", number] if words[0] != "file" => format!("entry refused {number}"),
+        [_, _, _, _, _, _] if words[0] != "entry" => "entry listed".to_string(),
+        _ => line.to_string(),
+    }
+}
+
+/// The sorts of lines that a run must see.
+fn sorts() -> Vec<String> {
+    let mut sorts: Vec<String> = (1..=11).map(|number| format!("file refused {number}")).collect();
+    sorts.extend((13..=19).map(|number| format!("entry refused {number}")));
+    let others = ["entry listed", "no entries", "a number of five digits", "over 5000 entries"];
+    sorts.extend(others.map(String::from));
+    sorts.extend(["65536 bytes listed", "65537 bytes"].map(String::from));
+    sorts
+}
+
+/// Reads the command line.
+fn options() -> Result<Options, String> {
+    let mut options = Options { seed: 1, ..Options::default() };
+    let mut words = std::env::args().skip(1);
+    while let Some(word) = words.next() {
+        if !word.starts_with("--") {
+            options.program.push(word);
+            options.program.extend(words.by_ref());
+            return Ok(options);
+        }
+        let value = words.next().ok_or(format!("{word} has nothing after it"))?;
+        let number = value.parse::<u64>().map_err(|_| format!("{word} takes a number"));
+        match word.as_str() {
+            "--list" => options.list = Some(value),
+            "--seed" => options.seed = number?,
+            "--case" => options.case = Some(number? as usize).filter(|&case| case < cases::count()),
+            _ => return Err(format!("{word} is no option")),
+        }
+        if word == "--case" && options.case.is_none() {
+            return Err(format!("--case takes a number below {}", cases::count()));
+        }
+    }
+    if options.list.is_none() {
+        return Err("the program's command is missing".to_string());
+    }
+    Ok(options)
+}
+
+/// Ends the program where it cannot compare.
+fn give_up(fault: &str) -> ! {
+    println!("listing: {fault}");
+    exit(2)
+}
+
+fn main() {
+    let options = options().unwrap_or_else(|fault| give_up(&fault));
+    if let Some(name) = &options.list {
+        let input = fs::read(name).unwrap_or_else(|fault| give_up(&format!("{name}: {fault}")));
+        print!("{}", listing::listing(&input));
+        return;
+    }
+    let mut comparison =
+        Comparison { options, differing: [0; PLAN.len()], compared: [0; PLAN.len()], lines: BTreeMap::new() };
+    if let Err(fault) = comparison.run() {
+        give_up(&format!("{}: {fault}", comparison.options.program.join(" ")));
+    }
+    exit((comparison.judge() > 0) as i32)
+}
