@@ -180,7 +180,11 @@ pub(crate) fn sectioned(name: &[u8], file: &[u8], asked: u64, identifier: i32) {
     begin(b"section", name);
     let refusal = section_refusal(file, EntryNumber(asked), identifier);
     let start = section_place(file, EntryNumber(asked), identifier).start;
-    part(refusal, start, section(file, EntryNumber(asked), identifier));
+    part(
+        refusal,
+        start,
+        section(file, EntryNumber(asked), identifier),
+    );
 }
 
 // The data of an entry.

@@ -11,6 +11,7 @@ use super::files::settings;
 use classic::append;
 use classic::create;
 
+// Runs the cases of this file.
 pub(crate) fn run() {
     file_a_again();
     index_lengths();
@@ -39,7 +40,15 @@ fn append_in(
     if file.len() < bytes {
         return;
     }
-    let answer = append(&mut file[0..bytes], 1, index, ids, lengths, sections, values);
+    let answer = append(
+        &mut file[0..bytes],
+        1,
+        index,
+        ids,
+        lengths,
+        sections,
+        values,
+    );
     appended(name, answer, check::same(before, file));
 }
 
@@ -53,20 +62,50 @@ fn indexed(name: &[u8], before: [u8; 480], index: &[u8]) {
 fn sectioned_1(name: &[u8], ids: &[i32], lengths: &[i64], sections: &[u8]) {
     let before = a_after_1();
     let mut file = before;
-    append_in(name, &mut file, &before, 480, &[9, 0, 0, 0], ids, lengths, sections, &[]);
+    append_in(
+        name,
+        &mut file,
+        &before,
+        480,
+        &[9, 0, 0, 0],
+        ids,
+        lengths,
+        sections,
+        &[],
+    );
 }
 
 // Appends an entry with data to the first of a file's bytes.
 fn holding(name: &[u8], before: [u8; 480], bytes: usize, values: &[u8]) {
     let mut file = before;
-    append_in(name, &mut file, &before, bytes, &[9, 0, 0, 0], &[], &[], &[], values);
+    append_in(
+        name,
+        &mut file,
+        &before,
+        bytes,
+        &[9, 0, 0, 0],
+        &[],
+        &[],
+        &[],
+        values,
+    );
 }
 
 // The appends of file A, and one more.
 fn file_a_again() {
     let before = a_created();
     let mut file = before;
-    append_in(b"A (1)", &mut file, &before, 480, &[101, 0, 0, 0], &[7], &[3], &[0; 12], &[0; 20]);
+    append_in(
+        b"A (1)",
+        &mut file,
+        &before,
+        480,
+        &[101, 0, 0, 0],
+        &[7],
+        &[3],
+        &[0; 12],
+        &[0; 20],
+    );
     indexed(b"A (2)", a_after_1(), &[102, 0, 0, 0]);
     indexed(b"A (3)", a_after_2(), &[103, 0, 0, 0]);
     indexed(b"A (4)", file_a(), &[104, 0, 0, 0]);
@@ -114,10 +153,20 @@ fn long_sums() {
     let greatest = 0x7fff_ffff_ffff_ffff;
     let quarter = 0x4000_0000_0000_0000;
     sectioned_1(b"length 2^63 - 1", &[7], &[greatest], &[]);
-    sectioned_1(b"lengths 2^63 - 1 2^63 - 1 4", &[7, 8, 9], &[greatest, greatest, 4], &[0; 8]);
+    sectioned_1(
+        b"lengths 2^63 - 1 2^63 - 1 4",
+        &[7, 8, 9],
+        &[greatest, greatest, 4],
+        &[0; 8],
+    );
     sectioned_1(b"length 2^62", &[7], &[quarter], &[]);
     sectioned_1(b"length 2^62 + 1", &[7], &[quarter + 1], &[0; 4]);
-    sectioned_1(b"four lengths 2^62", &[1, 2, 3, 4], &[quarter, quarter, quarter, quarter], &[]);
+    sectioned_1(
+        b"four lengths 2^62",
+        &[1, 2, 3, 4],
+        &[quarter, quarter, quarter, quarter],
+        &[],
+    );
 }
 
 // Refusal 22 by the bytes of the data.
@@ -147,6 +196,18 @@ fn number_words(sections: &mut [u8]) {
     }
 }
 
+// Appends sections to a file without index words.
+fn counted(
+    name: &[u8],
+    file: &mut [u8],
+    before: &[u8],
+    ids: &[i32],
+    lengths: &[i64],
+    sections: &[u8],
+) {
+    append_in(name, file, before, 4096, &[], ids, lengths, sections, &[]);
+}
+
 // Refusal 22 by the count of identifiers and of lengths.
 fn too_many(file: &mut [u8], before: &[u8], ids: &[i32], lengths: &[i64], sections: &[u8]) {
     if ids.len() < 64 {
@@ -155,9 +216,24 @@ fn too_many(file: &mut [u8], before: &[u8], ids: &[i32], lengths: &[i64], sectio
     if lengths.len() < 64 {
         return;
     }
-    append_in(b"65 identifiers", file, before, 4096, &[], ids, lengths, sections, &[]);
-    append_in(b"64 identifiers 65 lengths", file, before, 4096, &[], &ids[0..64], lengths, sections, &[]);
-    append_in(b"65 identifiers 64 lengths", file, before, 4096, &[], ids, &lengths[0..64], sections, &[]);
+    let fewer = &ids[0..64];
+    counted(b"65 identifiers", file, before, ids, lengths, sections);
+    counted(
+        b"64 identifiers 65 lengths",
+        file,
+        before,
+        fewer,
+        lengths,
+        sections,
+    );
+    counted(
+        b"65 identifiers 64 lengths",
+        file,
+        before,
+        ids,
+        &lengths[0..64],
+        sections,
+    );
 }
 
 // 64 identifiers.
@@ -171,16 +247,14 @@ fn as_many(file: &mut [u8], before: &[u8], ids: &[i32], lengths: &[i64], section
     if sections.len() < 256 {
         return;
     }
-    append_in(
+    let words = &sections[0..256];
+    counted(
         b"64 identifiers",
         file,
         before,
-        4096,
-        &[],
         &ids[0..64],
         &lengths[0..64],
-        &sections[0..256],
-        &[],
+        words,
     );
 }
 
@@ -224,7 +298,17 @@ fn extensions() {
 // Appends to a file that stays as the append leaves it.
 fn again(name: &[u8], file: &mut [u8; 360], bytes: usize) {
     let before = *file;
-    append_in(name, file, &before, bytes, &[9, 0, 0, 0], &[], &[], &[], &[]);
+    append_in(
+        name,
+        file,
+        &before,
+        bytes,
+        &[9, 0, 0, 0],
+        &[],
+        &[],
+        &[],
+        &[],
+    );
 }
 
 // Refusal 24: the entry ends at the buffer's end, and a word past it; P5.
@@ -234,10 +318,20 @@ fn space() {
     holding(b"45 words of data to the end", one, 480, &[0; 180]);
     holding(b"46 words of data past the end", one, 480, &[0; 184]);
     holding(b"new area, 9 words of data to the end", two, 480, &[0; 36]);
-    holding(b"new area, 10 words of data past the end", two, 480, &[0; 40]);
+    holding(
+        b"new area, 10 words of data past the end",
+        two,
+        480,
+        &[0; 40],
+    );
     holding(b"P5", two, 400, &[]);
     holding(b"one record lent", a_created(), 80, &[]);
-    holding(b"two records lent, a new area fills them", a_created(), 160, &[]);
+    holding(
+        b"two records lent, a new area fills them",
+        a_created(),
+        160,
+        &[],
+    );
     holding(b"three records lent", a_created(), 240, &[]);
 }
 
@@ -245,6 +339,26 @@ fn space() {
 fn first_of_two() {
     let before = file_a();
     let mut file = before;
-    append_in(b"index bytes and lengths", &mut file, &before, 480, &[], &[7], &[0], &[], &[]);
-    append_in(b"lengths and space", &mut file, &before, 480, &[0; 4], &[7], &[0], &[], &[0; 40]);
+    append_in(
+        b"index bytes and lengths",
+        &mut file,
+        &before,
+        480,
+        &[],
+        &[7],
+        &[0],
+        &[],
+        &[],
+    );
+    append_in(
+        b"lengths and space",
+        &mut file,
+        &before,
+        480,
+        &[0; 4],
+        &[7],
+        &[0],
+        &[],
+        &[0; 40],
+    );
 }

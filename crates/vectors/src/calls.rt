@@ -4,14 +4,15 @@ use super::files::ENTRY_1;
 use super::files::INDEX_1;
 use super::files::MINUS_1;
 use super::files::file_a;
+use super::files::with_byte;
 use super::files::with4;
 use super::files::with8;
-use super::files::with_byte;
 use super::printing::field;
 use super::printing::number;
 use super::printing::text;
 use classic::EntryNumber;
 use classic::ExtensionNumber;
+use classic::Open;
 use classic::append;
 use classic::check_order;
 use classic::data_array_refusal;
@@ -20,8 +21,8 @@ use classic::index_words_refusal;
 use classic::open_entry;
 use classic::section_refusal;
 use classic::validate;
-use classic::Open;
 
+// Runs the cases of this file.
 pub(crate) fn run() {
     of_the_file();
     of_the_entry();
@@ -39,10 +40,19 @@ fn open_refusal(file: &[u8], asked: u64) -> u32 {
 // The refusals of the calls that read.
 fn reading(file: &[u8], asked: u64) {
     field(b"validate", validate(file).refusal as u64);
-    field(b"extension", extension_of(file, ExtensionNumber(asked)).refusal as u64);
+    field(
+        b"extension",
+        extension_of(file, ExtensionNumber(asked)).refusal as u64,
+    );
     field(b"open", open_refusal(file, asked) as u64);
-    field(b"index", index_words_refusal(file, EntryNumber(asked)) as u64);
-    field(b"section", section_refusal(file, EntryNumber(asked), 7) as u64);
+    field(
+        b"index",
+        index_words_refusal(file, EntryNumber(asked)) as u64,
+    );
+    field(
+        b"section",
+        section_refusal(file, EntryNumber(asked), 7) as u64,
+    );
     field(b"data", data_array_refusal(file, EntryNumber(asked)) as u64);
     let checked = check_order(file);
     field(b"check", checked.entry.0);

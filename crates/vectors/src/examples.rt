@@ -16,6 +16,7 @@ use super::files::settings;
 use classic::append;
 use classic::create;
 
+// Runs the cases of this file.
 pub(crate) fn run() {
     building();
     reading();

@@ -94,7 +94,28 @@ pub(crate) fn with_byte(mut file: [u8; 480], at: usize, byte: u8) -> [u8; 480] {
 fn append_first(file: &mut [u8]) -> u32 {
     let index = [101, 0, 0, 0];
     let sections = [11, 0, 0, 0, 12, 0, 0, 0, 13, 0, 0, 0];
-    let values = [21, 0, 0, 0, 22, 0, 0, 0, 23, 0, 0, 0, 24, 0, 0, 0, 25, 0, 0, 0];
+    let values = [
+        21,
+        0,
+        0,
+        0,
+        22,
+        0,
+        0,
+        0,
+        23,
+        0,
+        0,
+        0,
+        24,
+        0,
+        0,
+        0,
+        25,
+        0,
+        0,
+        0,
+    ];
     append(file, 1, &index, &[7], &[3], &sections, &values).refusal
 }
 

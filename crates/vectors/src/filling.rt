@@ -10,6 +10,7 @@ use super::files::file_a;
 use super::files::with4;
 use super::files::with8;
 
+// Runs the cases of this file.
 pub(crate) fn run() {
     counts();
     records();
@@ -62,9 +63,18 @@ fn next_words() {
     validated(b"A nextword 21", &with4(a, 11, 21));
     validated(b"A nextword -1", &with4(a, 11, -1));
     validated(b"A next free at the end", &with4(with8(a, 9, 7), 11, 1));
-    validated(b"A next free one past the end", &with4(with8(a, 9, 7), 11, 2));
-    validated(b"A next free at the area's end", &with4(with8(a, 9, 6), 11, 1));
-    validated(b"A next free one before the area's end", &with4(with8(a, 9, 5), 11, 20));
+    validated(
+        b"A next free one past the end",
+        &with4(with8(a, 9, 7), 11, 2),
+    );
+    validated(
+        b"A next free at the area's end",
+        &with4(with8(a, 9, 6), 11, 1),
+    );
+    validated(
+        b"A next free one before the area's end",
+        &with4(with8(a, 9, 5), 11, 20),
+    );
 }
 
 // Refusal 11 by the first area, of one record.
@@ -87,7 +97,10 @@ fn second_area() {
     validated(b"A aex 2 2", &with8(a, 17, 2));
     validated(b"A aex 2 3", &with8(a, 17, 3));
     validated(b"A aex 2 6", &with8(a, 17, 6));
-    validated(b"A aex 2 6, next free at its end", &with4(with8(with8(a, 17, 6), 9, 7), 11, 1));
+    validated(
+        b"A aex 2 6, next free at its end",
+        &with4(with8(with8(a, 17, 6), 9, 7), 11, 1),
+    );
     validated(b"A aex 2 -1", &with8(a, 17, MINUS_1));
     validated(b"A aex 2 2^32 + 5", &with8(a, 17, WORD + 5));
     validated(b"A aex 2 2^62 + 5", &with8(a, 17, WRAP + 5));

@@ -9,6 +9,7 @@ use super::files::settings;
 use classic::append;
 use classic::create;
 
+// Runs the cases of this file.
 pub(crate) fn run() {
     capacities();
     entries();
@@ -46,7 +47,11 @@ fn capacities() {
     validated(b"P8 nex 3 xnext 28673", &file);
     let before = file;
     let refused = append(&mut file, 1, &[], &[], &[], &[], &[]);
-    appended(b"P8 new capacity 32768", refused, check::same(&before, &file));
+    appended(
+        b"P8 new capacity 32768",
+        refused,
+        check::same(&before, &file),
+    );
     put8(&mut file, 7, 28674);
     validated(b"P8 nex 3 xnext 28674", &file);
     put4(&mut file, 13, 4);

@@ -11,10 +11,11 @@ use super::files::MINUS_1;
 use super::files::WORD;
 use super::files::WRAP;
 use super::files::file_a;
+use super::files::with_byte;
 use super::files::with4;
 use super::files::with8;
-use super::files::with_byte;
 
+// Runs the cases of this file.
 pub(crate) fn run() {
     numbers();
     extensions();
@@ -58,8 +59,16 @@ fn starts() {
     opened(b"A 3 word 2", &with4(a, INDEX_3 + 3, 2), 3);
     opened(b"A 3 word 21", &with4(a, INDEX_3 + 3, 21), 3);
     opened(b"A 3 word -1", &with4(a, INDEX_3 + 3, -1), 3);
-    opened(b"A 3 record 5 word 20", &with4(with8(a, INDEX_3 + 1, 5), INDEX_3 + 3, 20), 3);
-    opened(b"A 3 record 5 word 21", &with4(with8(a, INDEX_3 + 1, 5), INDEX_3 + 3, 21), 3);
+    opened(
+        b"A 3 record 5 word 20",
+        &with4(with8(a, INDEX_3 + 1, 5), INDEX_3 + 3, 20),
+        3,
+    );
+    opened(
+        b"A 3 record 5 word 21",
+        &with4(with8(a, INDEX_3 + 1, 5), INDEX_3 + 3, 21),
+        3,
+    );
     opened(b"A 3 nextword 11", &with4(a, 11, 11), 3);
 }
 
@@ -67,9 +76,21 @@ fn starts() {
 fn codes() {
     let a = file_a();
     opened(b"A 3 code 31 20 20 20", &with_byte(a, 4 * ENTRY_3, 0x31), 3);
-    opened(b"A 3 code 32 41 20 20", &with_byte(a, 4 * ENTRY_3 + 1, 0x41), 3);
-    opened(b"A 3 code 32 20 00 20", &with_byte(a, 4 * ENTRY_3 + 2, 0), 3);
-    opened(b"A 3 code 32 20 20 a0", &with_byte(a, 4 * ENTRY_3 + 3, 0xa0), 3);
+    opened(
+        b"A 3 code 32 41 20 20",
+        &with_byte(a, 4 * ENTRY_3 + 1, 0x41),
+        3,
+    );
+    opened(
+        b"A 3 code 32 20 00 20",
+        &with_byte(a, 4 * ENTRY_3 + 2, 0),
+        3,
+    );
+    opened(
+        b"A 3 code 32 20 20 a0",
+        &with_byte(a, 4 * ENTRY_3 + 3, 0xa0),
+        3,
+    );
 }
 
 // Refusal 15: nsec, and nword against the descriptor and the next free position.
@@ -85,7 +106,11 @@ fn sizes() {
     opened(b"A 1 nword 71", &with8(a, ENTRY_1 + 4, 71), 1);
     opened(b"A 1 nword 72", &with8(a, ENTRY_1 + 4, 72), 1);
     opened(b"A 3 nword 12", &with8(a, ENTRY_3 + 4, 12), 3);
-    opened(b"A 3 nword 12 nextword 13", &with4(with8(a, ENTRY_3 + 4, 12), 11, 13), 3);
+    opened(
+        b"A 3 nword 12 nextword 13",
+        &with4(with8(a, ENTRY_3 + 4, 12), 11, 13),
+        3,
+    );
     opened(b"A 1 nword 2^32 + 24", &with8(a, ENTRY_1 + 4, WORD + 24), 1);
     opened(b"A 1 nword 2^63 - 1", &with8(a, ENTRY_1 + 4, GREATEST), 1);
     opened(b"A 1 nword -1", &with8(a, ENTRY_1 + 4, MINUS_1), 1);

@@ -6,14 +6,15 @@ use super::files::file_a;
 use super::files::put4;
 use super::files::put8;
 use super::files::settings;
-use super::files::with4;
 use super::files::with_byte;
+use super::files::with4;
 use super::printing::field;
 use super::printing::text;
 use classic::Settings;
 use classic::create;
 use classic::validate;
 
+// Runs the cases of this file.
 pub(crate) fn run() {
     lengths();
     lent();
@@ -48,7 +49,14 @@ fn same_behind(before: &[u8], file: &[u8], first: usize) -> bool {
 
 // Creates a file in the first of the lent bytes: the refusal, or whether the bytes behind the first record stay and
 // the file validates.
-fn created_in(name: &[u8], file: &mut [u8], before: &[u8], bytes: usize, chosen: Settings, first: usize) {
+fn created_in(
+    name: &[u8],
+    file: &mut [u8],
+    before: &[u8],
+    bytes: usize,
+    chosen: Settings,
+    first: usize,
+) {
     if file.len() < bytes {
         return;
     }
@@ -179,7 +187,10 @@ fn growths() {
 fn first_of_two() {
     let a = file_a();
     validated(b"A, 63 bytes lent, code 31", &with_byte(a, 0, 0x31)[0..63]);
-    validated(b"A code 31, reclen 15", &with4(with_byte(a, 0, 0x31), 2, 15));
+    validated(
+        b"A code 31, reclen 15",
+        &with4(with_byte(a, 0, 0x31), 2, 15),
+    );
     validated(b"A reclen 15, 479 bytes lent", &with4(a, 2, 15)[0..479]);
     validated(b"A kind 0, 479 bytes lent", &with4(a, 3, 0)[0..479]);
     validated(b"A kind 0, lind 2", &with4(with4(a, 3, 0), 5, 2));
@@ -220,16 +231,52 @@ fn extensions() {
     stored(b"reclen 45 nex 16", 180, settings(45, 3, 1, 10), 16, 17);
     stored(b"reclen 46 nex 16", 184, settings(46, 3, 1, 10), 16, 17);
     stored(b"reclen 46 nex 17", 184, settings(46, 3, 1, 10), 17, 18);
-    stored(b"reclen 4096 nex 16", 16384, settings(4096, 3, 1, 10), 16, 17);
-    stored(b"reclen 4096 nex 17", 16384, settings(4096, 3, 1, 10), 17, 18);
+    stored(
+        b"reclen 4096 nex 16",
+        16384,
+        settings(4096, 3, 1, 10),
+        16,
+        17,
+    );
+    stored(
+        b"reclen 4096 nex 17",
+        16384,
+        settings(4096, 3, 1, 10),
+        17,
+        18,
+    );
 }
 
 // Refusal 8 by a capacity: 1, 2, 4 .. 16,384 is the fifteenth; 4096, 7782, 14785, 28091.
 fn over_capacity() {
-    stored(b"lex1 1 gex 20 nex 15", 184, settings(46, 3, 1, 20), 15, 32768);
-    stored(b"lex1 1 gex 20 nex 16", 184, settings(46, 3, 1, 20), 16, 65536);
-    stored(b"lex1 4096 gex 19 nex 3", 88, settings(22, 3, 4096, 19), 3, 26664);
-    stored(b"lex1 4096 gex 19 nex 4", 88, settings(22, 3, 4096, 19), 4, 26665);
+    stored(
+        b"lex1 1 gex 20 nex 15",
+        184,
+        settings(46, 3, 1, 20),
+        15,
+        32768,
+    );
+    stored(
+        b"lex1 1 gex 20 nex 16",
+        184,
+        settings(46, 3, 1, 20),
+        16,
+        65536,
+    );
+    stored(
+        b"lex1 4096 gex 19 nex 3",
+        88,
+        settings(22, 3, 4096, 19),
+        3,
+        26664,
+    );
+    stored(
+        b"lex1 4096 gex 19 nex 4",
+        88,
+        settings(22, 3, 4096, 19),
+        4,
+        26665,
+    );
 }
 
 // Refusal 9 where 5, 7, 10 and 15 entries fit: with as many as fit, only the areas are missing (11).
