@@ -1,0 +1,159 @@
+//! The line of a case: the call, its name, and the answer of the independent implementation.
+
+use crate::reference::{self, Addition, Part, Refusal, Settings};
+
+/// A refusal in words.
+fn refused(refusal: Refusal) -> String {
+    format!("refused {}", refusal.number)
+}
+
+/// Whether bytes are unchanged, in words.
+fn unchanged(before: &[u8], file: &[u8]) -> &'static str {
+    if before == file {
+        "unchanged"
+    } else {
+        "changed"
+    }
+}
+
+/// The refusal number of an answer, 0 when it is accepted.
+fn number<T>(answer: Result<T, Refusal>) -> u32 {
+    answer.err().map_or(0, |refusal| refusal.number)
+}
+
+/// Words in words: below 2^24 as a number, any other as x and its bytes.
+fn words(bytes: &[u8]) -> String {
+    let word = |b: &[u8]| match u32::from_le_bytes([b[0], b[1], b[2], b[3]]) {
+        value if value < 1 << 24 => format!(" {value}"),
+        _ => format!(" x{:02x}{:02x}{:02x}{:02x}", b[0], b[1], b[2], b[3]),
+    };
+    bytes.chunks_exact(4).map(word).collect()
+}
+
+/// Validates a file.
+pub fn validate(name: &str, file: &[u8]) {
+    println!("validate {name}: {}", reference::validate(file).map_or_else(refused, |_| "admitted".to_string()));
+}
+
+/// Validates a file and tells all its numbers, the addresses in 16 places.
+pub fn describe(name: &str, file: &[u8]) {
+    let told = reference::validate(file).map_or_else(refused, |d| {
+        let mut aex: Vec<String> = d.aex.iter().map(i128::to_string).collect();
+        aex.resize(16, "0".to_string());
+        let settings = format!("reclen {} kind {} vind {} lind {} flags {}", d.reclen, d.kind, d.vind, d.lind, d.flags);
+        let next = format!("xnext {} nextrec {} nextword {}", d.xnext, d.nextrec, d.nextword);
+        format!("{settings} {next} lex1 {} nex {} gex {} aex {}", d.lex1, d.nex, d.gex, aex.join(" "))
+    });
+    println!("validate {name}: {told}");
+}
+
+/// An extension by its number.
+pub fn extension(name: &str, file: &[u8], asked: u64) {
+    let told = reference::extension_of(file, asked)
+        .map_or_else(refused, |e| format!("capacity {} first {} records {}", e.capacity, e.first, e.records));
+    println!("extension {name}: {told}");
+}
+
+/// Opens an entry.
+pub fn open(name: &str, file: &[u8], asked: u64) {
+    let told = reference::open(file, asked).map_or_else(refused, |e| {
+        let start = format!("record {} word {} version {}", e.record, e.word, e.version);
+        format!("{start} nsec {} nword {} adata {} ldata {}", e.nsec, e.nword, e.adata, e.ldata)
+    });
+    println!("open {name}: {told}");
+}
+
+/// The tables of an opened entry, place by place.
+pub fn tables(name: &str, file: &[u8], asked: u64) {
+    let mut told = String::new();
+    if let Ok(e) = reference::open(file, asked) {
+        for (i, id) in e.ids.iter().enumerate() {
+            told += &format!(" place {} identifier {id} length {} address {}", i + 1, e.lengths[i], e.addresses[i]);
+        }
+    }
+    println!("tables {name}:{told}");
+}
+
+/// A part that is handed out.
+fn part(call: &str, name: &str, file: &[u8], answer: Result<Part, Refusal>) {
+    let told = answer.map_or_else(
+        |refusal| format!("{} no words", refused(refusal)),
+        |p| match p.length {
+            0 => format!("at byte {} no words", p.start),
+            _ => format!("at byte {} words{}", p.start, words(&file[p.start as usize..(p.start + p.length) as usize])),
+        },
+    );
+    println!("{call} {name}: {told}");
+}
+
+/// The index words of an entry.
+pub fn index(name: &str, file: &[u8], asked: u64) {
+    part("index words", name, file, reference::index_words(file, asked));
+}
+
+/// A section of an entry.
+pub fn section(name: &str, file: &[u8], asked: u64, identifier: i32) {
+    part("section", name, file, reference::section(file, asked, identifier));
+}
+
+/// The data of an entry.
+pub fn data(name: &str, file: &[u8], asked: u64) {
+    part("data", name, file, reference::data(file, asked));
+}
+
+/// The words of a part of a file.
+pub fn show(name: &str, bytes: &[u8]) {
+    println!("words {name}:{}", words(bytes));
+}
+
+/// The order check.
+pub fn check(name: &str, file: &[u8]) {
+    let told = match reference::check(file) {
+        Ok(()) => "passes".to_string(),
+        Err((entry, refusal)) => format!("entry {entry} {}", refused(refusal)),
+    };
+    println!("check {name}: {told}");
+}
+
+/// Creates a file in so many bytes that were all ee.
+pub fn create(name: &str, bytes: usize, chosen: Settings) {
+    let before = vec![0xee; bytes];
+    let mut file = before.clone();
+    let told = match reference::create(&mut file, &chosen) {
+        Err(refusal) => format!("{} {}", refused(refusal), unchanged(&before, &file)),
+        Ok(()) => {
+            let first = 4 * chosen.reclen as usize;
+            let behind = unchanged(&before[first..], &file[first..]);
+            format!("accepted {behind} validate {}", number(reference::validate(&file)))
+        }
+    };
+    println!("create {name}: {told}");
+}
+
+/// Appends to the first so many bytes of a file, which stays as the append leaves it.
+pub fn append(name: &str, file: &mut [u8], bytes: usize, addition: &Addition) {
+    let before = file.to_vec();
+    let told = match reference::append(&mut file[..bytes], addition) {
+        Ok(entry) => format!("entry {entry}"),
+        Err(refusal) => format!("{} {}", refused(refusal), unchanged(&before, file)),
+    };
+    println!("append {name}: {told}");
+}
+
+/// Every call on the first so many bytes of a file, 0 for one that is accepted.
+pub fn every_call(name: &str, mut file: Vec<u8>, bytes: usize, asked: u64) {
+    let before = file.clone();
+    let lent = &mut file[..bytes];
+    let opening = [
+        ("validate", number(reference::validate(lent))),
+        ("extension", number(reference::extension_of(lent, asked))),
+        ("open", number(reference::open(lent, asked))),
+        ("index", number(reference::index_words(lent, asked))),
+        ("section", number(reference::section(lent, asked, 7))),
+        ("data", number(reference::data(lent, asked))),
+    ];
+    let told: String = opening.iter().map(|(call, refusal)| format!(" {call} {refusal}")).collect();
+    let (entry, checked) = reference::check(lent).err().map_or((0, 0), |(entry, refusal)| (entry, refusal.number));
+    let appended = number(reference::append(lent, &crate::files::bare(&[9])));
+    println!("every call, {name}:{told} check {entry} {checked} append {appended} {}", unchanged(&before, &file));
+}
