@@ -7,3 +7,4 @@ pub mod Readings
 pub mod AppendAdds
 pub mod Refusing
 pub mod Series
+pub mod WorkedExamples

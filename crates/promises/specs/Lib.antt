@@ -1,4 +1,5 @@
--- What the theorems of `promises` speak of: the contents of a file, a series of calls, the regions of a file.
+-- What the theorems of `promises` speak of: the contents of a file, a series of calls, the regions of a file; and the table of worked examples.
 pub mod Contents
 pub mod Calls
 pub mod Regions
+pub mod Examples
