@@ -32,6 +32,7 @@ infixr 60 _&_
 _&_ : {A B : Type 0} → A → B → A × B
 a & b = (a, b)
 
+-- every row of the table
 pub worked-examples : AllMatch examples
 unfolding examples
     part splice zeros number numeral bitsAt within atLeast sameBytes
@@ -55,7 +56,7 @@ worked-examples =
     -- P5
     refl & refl &
     -- P6
-    refl & refl & refl &
+    refl & refl & refl & refl &
     -- P7
     refl &
     -- P8

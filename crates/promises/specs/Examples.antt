@@ -30,7 +30,7 @@ use Rattle.writer.specs.Handed.{Handed, handedIn}
 use Rattle.writer.specs.Answers.{appendOf, fileAfter}
 use Rattle.promises.specs.Calls.{following}
 
--- a row of the table
+-- a row of the table: P of its number, what is found, what is expected
 pub data Row : Type 1 where
   P : {A : Type 0} → (label : ℕ) → (found expected : A) → Row
 
@@ -41,6 +41,7 @@ AllMatch (P label found expected ∷ rows) = (found ≡ expected) × AllMatch ro
 
 -- ---- numbers with their units
 
+-- entry e
 abbrev pub entry : ℕ → EntryNumber
 entry e = record { 0 = e }
 
@@ -66,7 +67,7 @@ settings reclen lind lex1 gex = record {
   gex = pos gex;
 }
 
--- append (1): version 1, identifier 7 of 3 words, 5 data words; one index word. The bytes are 1, 2, .. and 101, 102, ..
+-- append (1): version 1, identifier 7 of 3 words, 5 data words; one index word. The section's bytes are 1 to 12, the data's 101 to 120
 abbrev pub append1 : Handed
 append1 = handedIn (pos 1) (following 200 4) (pos 7 ∷ []) (pos 3 ∷ []) (following 0 12) (following 100 20)
 
@@ -108,11 +109,11 @@ abbrev pub adataIn : Open → ℤ
 adataIn (Numbers place version nsec nword array) = array .adata .0
 adataIn (Refused n) = pos 0
 
--- where a part that is handed out starts
+-- the record and word where a part that is handed out starts
 abbrev pub startsAt : ℕ → PartPlace → Place
 startsAt reclen p = placeOf reclen (p .start / 4)
 
--- where the index of an entry starts
+-- the record and word where the index of an entry starts
 abbrev pub indexAt : List ℕ → ℕ → Place
 indexAt file e =
     let d = numbersOf file in
@@ -149,18 +150,18 @@ numbersRefusal bytes d addresses = refusalIn (settingRules bytes d ++ fillingRul
 abbrev pub imageWith : ℕ → Settings → List ℕ
 imageWith bytes s = firstWritten (zeros bytes) (createdOf s)
 
--- P6: an extension of 4 entries, its area at record 2
+-- P6: an extension of 4 entries, all in use, its area at records 2 and 3
 abbrev pub crossing : DescriptorNumbers
 crossing = filled (settings 16 5 4 10) 5 4 1
 
--- P8: the areas of 4,096, 8,192 and 16,384 entries take 745, 1,490 and 2,979 records of 22 words, and all slots are in use
+-- P8: the areas of 4,096, 8,192 and 16,384 entries take 745, 1,490 and 2,979 records of 22 words. All are in use
 abbrev pub areas3 : List RecordNumber
 areas3 = aex 2 ∷ aex 747 ∷ aex 2237 ∷ []
 
 abbrev pub grown : ℕ → DescriptorNumbers
 grown nex = filled (settings 22 4 4096 20) 28673 5216 nex
 
--- P9: each of the 16 areas of 4,096 entries takes 357 records of 46 words
+-- P9: each of the 16 areas of 4,096 entries takes 357 records of 46 words. All are in use where xnext is 65,537
 abbrev pub areas16 : List RecordNumber
 areas16 = map (λ k. aex (2 + 357 * k)) (0 ∷ following 0 15)
 
@@ -171,7 +172,7 @@ most xnext = filled (settings 46 4 4096 10) xnext 5714 16
 
 unfoldable pub examples : List Row
 examples =
-    -- file A: section 7 has address 17, data 20. The entry starts at record 3 word 1, so these are its words 17 and 20
+    -- file A: section 7 has address 17, data 20. The entry starts at record 3 word 1, so these are words 17 and 20 of that record
     P 1 (identifierFirst A 1) (pos 7) ∷
     P 1 (addressFirst A 1) 17 ∷
     P 1 (adataIn (openOf A (entry 1) .answer)) (pos 20) ∷
@@ -190,19 +191,20 @@ examples =
     P 5 (appendOf (after2 5) append3 .refusal) 24 ∷
     P 5 (appendOf (after2 6) append3 .refusal) 0 ∷
     -- reclen 16, lind 5: the fourth index starts at offset 15 and crosses a record: its first word and its fifth
+    P 6 (numbersRefusal (offsetOf (16 * 3)) crossing (aex 2 ∷ [])) 0 ∷
     P 6 (slotOf (growthIn crossing) 1 5 (entry 4) .offset) 15 ∷
     P 6 (placeOf 16 (slotPositionOf crossing (aex 2 ∷ []) (entry 4))) (at 2 16) ∷
     P 6 (placeOf 16 (slotPositionOf crossing (aex 2 ∷ []) (entry 4) + 4)) (at 3 4) ∷
     -- lex1 5, gex 15: 5, 7, 10, 15
     P 7 (map (capacityOf (growthOf 5 15)) (1 ∷ 2 ∷ 3 ∷ 4 ∷ [])) (5 ∷ 7 ∷ 10 ∷ 15 ∷ []) ∷
     -- reclen 22, lex1 4,096, gex 20: nex 3 admitted, nex 4 gives 8
-    P 8 (numbersRefusal 458920 (grown 3) areas3) 0 ∷
-    P 8 (numbersRefusal 458920 (grown 4) areas3) 8 ∷
+    P 8 (numbersRefusal (offsetOf (22 * 5215)) (grown 3) areas3) 0 ∷
+    P 8 (numbersRefusal (offsetOf (22 * 5215)) (grown 4) areas3) 8 ∷
     -- lex1 4,096, gex 10, nex 16, reclen 46: 65,536 entries
     P 9 (totalOf (growthOf 4096 10) 16) 65536 ∷
-    P 9 (numbersRefusal 1051192 (most 65537) areas16) 0 ∷
-    P 9 (numbersRefusal 1051192 (most 65538) areas16) 9 ∷
-    -- reclen 15 gives 3, 16 does not: by validate, and by create
+    P 9 (numbersRefusal (offsetOf (46 * 5713)) (most 65537) areas16) 0 ∷
+    P 9 (numbersRefusal (offsetOf (46 * 5713)) (most 65538) areas16) 9 ∷
+    -- reclen 15 gives 3, 16 does not: by validate, and by create. 960 bytes are whole records of either
     P 10 (fileRefusal (imageWith 960 (settings 15 4 2 20))) 3 ∷
     P 10 (fileRefusal (imageWith 960 (settings 16 4 2 20))) 0 ∷
     P 10 (creationRefusal 960 (settings 15 4 2 20)) 3 ∷
