@@ -12,3 +12,4 @@ pub mod Refusing
 pub mod Series
 pub mod OrderAgain
 pub mod Demand3
+pub mod WorkedExamples

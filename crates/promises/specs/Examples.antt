@@ -1,0 +1,219 @@
+-- The cases P1 to P12 of 01, "Examples worked by hand", as one table. A row has the number of its case, what the definitions give, and what 01 says.
+use Prim.Native.Nat.{ℕ, _+_, _*_, _/_}
+use mathlib.Core.Path.{_≡_}
+use mathlib.Core.List.{List, [], _∷_, _++_, map}
+use lib.IntN.{ℤ, pos, negℤ}
+use lib.ListN.{getD, replicate}
+use Rattle.image.specs.Image.{zeros}
+use Rattle.words.specs.Word.{integer8, signedAt}
+use Rattle.geometry.specs.declared.units.RecordNumber.{RecordNumber}
+use Rattle.geometry.specs.declared.units.EntryNumber.{EntryNumber}
+use Rattle.geometry.specs.declared.units.Place.{Place}
+use Rattle.geometry.specs.Units.{placeOf, offsetOf}
+use Rattle.geometry.specs.Growth.{growthOf, capacityOf, totalOf}
+use Rattle.geometry.specs.Area.{slotOf}
+use Rattle.descriptor.specs.declared.numbers.Settings.{Settings}
+use Rattle.descriptor.specs.declared.numbers.DescriptorNumbers.{DescriptorNumbers}
+use Rattle.descriptor.specs.declared.validating.Validated.{Validated}
+use Rattle.descriptor.specs.declared.validating.Validated.the-variants as validated
+use Rattle.descriptor.specs.Refusal.{refusalIn}
+use Rattle.descriptor.specs.FirstRecord.{createdOf, growthIn, numbersOf, addressesOf}
+use Rattle.descriptor.specs.Rules.{settingRules, fillingRules, fileRefusal}
+use Rattle.descriptor.specs.Answers.{validationOf}
+use Rattle.entry.specs.declared.answers.Open.{Open}
+use Rattle.entry.specs.declared.answers.Open.the-variants.{Numbers, Refused}
+use Rattle.entry.specs.declared.answers.PartPlace.{PartPlace}
+use Rattle.entry.specs.Opening.{slotPositionOf}
+use Rattle.entry.specs.Answers.{openOf, sectionWordsOf, dataWordsOf, bytesOf}
+use Rattle.writer.specs.Creation.{firstWritten, creationRefusal, createdFile}
+use Rattle.writer.specs.Handed.{Handed, handedIn}
+use Rattle.writer.specs.Answers.{appendOf, fileAfter}
+use Rattle.promises.specs.Calls.{following}
+
+-- a row of the table: P of its number, what is found, what is expected
+pub data Row : Type 1 where
+  P : {A : Type 0} → (label : ℕ) → (found expected : A) → Row
+
+-- every row finds what is expected of it
+abbrev pub AllMatch : List Row → Type 0
+AllMatch [] = Unit
+AllMatch (P label found expected ∷ rows) = (found ≡ expected) × AllMatch rows
+
+-- ---- numbers with their units
+
+-- entry e
+abbrev pub entry : ℕ → EntryNumber
+entry e = record { 0 = e }
+
+-- the address of an index area: its first record
+abbrev pub aex : ℕ → RecordNumber
+aex r = record { 0 = r }
+
+-- record r, word w
+abbrev pub at : ℕ → ℕ → Place
+at r w = record { «record» = record { 0 = r }; word = record { 0 = w } }
+
+-- ---- file A
+
+-- settings by reclen, lind, lex1 and gex; the others are A's in every case: kind 1, vind 2, flags 0
+abbrev pub settings : ℕ → ℕ → ℕ → ℕ → Settings
+settings reclen lind lex1 gex = record {
+  reclen = pos reclen;
+  kind = pos 1;
+  vind = pos 2;
+  lind = pos lind;
+  flags = pos 0;
+  lex1 = pos lex1;
+  gex = pos gex;
+}
+
+-- append (1): version 1, identifier 7 of 3 words, 5 data words; one index word. The section's bytes are 1 to 12, the data's 101 to 120
+abbrev pub append1 : Handed
+append1 = handedIn (pos 1) (following 200 4) (pos 7 ∷ []) (pos 3 ∷ []) (following 0 12) (following 100 20)
+
+-- appends (2) and (3): version 1, nothing else; one index word
+abbrev pub append2 : Handed
+append2 = handedIn (pos 1) (following 210 4) [] [] [] []
+
+abbrev pub append3 : Handed
+append3 = handedIn (pos 1) (following 220 4) [] [] [] []
+
+-- A of so many records of 20 words: created, and after each append
+abbrev pub created : ℕ → List ℕ
+created records = createdFile (zeros (offsetOf (20 * records))) (settings 20 4 2 20)
+
+abbrev pub after1 : ℕ → List ℕ
+after1 records = fileAfter (created records) append1
+
+abbrev pub after2 : ℕ → List ℕ
+after2 records = fileAfter (after1 records) append2
+
+abbrev pub after3 : ℕ → List ℕ
+after3 records = fileAfter (after2 records) append3
+
+-- A itself, of 6 records
+abbrev pub A : List ℕ
+A = after3 6
+
+-- ---- what is looked at
+
+-- the first place of an opened entry's tables: the section's identifier, and its address
+abbrev pub identifierFirst : List ℕ → ℕ → ℤ
+identifierFirst file e = getD (openOf file (entry e) .sections .identifiers) 0 (pos 0)
+
+abbrev pub addressFirst : List ℕ → ℕ → ℕ
+addressFirst file e = getD (openOf file (entry e) .sections .addresses) 0 (record { 0 = 0 }) .0
+
+-- adata in the answer of an open
+abbrev pub adataIn : Open → ℤ
+adataIn (Numbers place version nsec nword array) = array .adata .0
+adataIn (Refused n) = pos 0
+
+-- the record and word where a part that is handed out starts
+abbrev pub startsAt : ℕ → PartPlace → Place
+startsAt reclen p = placeOf reclen (p .start / 4)
+
+-- the record and word where the index of an entry starts
+abbrev pub indexAt : List ℕ → ℕ → Place
+indexAt file e =
+    let d = numbersOf file in
+    placeOf (d .reclen) (slotPositionOf d (addressesOf file (d .nex)) (entry e))
+
+-- the next free record and word of validated numbers
+abbrev pub nextIn : Validated → Place
+nextIn (validated.Numbers d) = record { «record» = d .nextrec; word = d .nextword }
+nextIn (validated.Refused n) = at 0 0
+
+-- the numbers of a new file with these settings, but for xnext, nextrec and nex
+abbrev pub filled : Settings → ℕ → ℕ → ℕ → DescriptorNumbers
+filled s xnext nextrec nex =
+    let d = createdOf s in
+    record {
+      reclen = d .reclen;
+      kind = d .kind;
+      vind = d .vind;
+      lind = d .lind;
+      flags = d .flags;
+      xnext = entry xnext;
+      nextrec = record { 0 = nextrec };
+      nextword = d .nextword;
+      lex1 = d .lex1;
+      nex = nex;
+      gex = d .gex;
+    }
+
+-- the refusal, by rules 3 to 11, of a file of so many bytes with these numbers and addresses
+abbrev pub numbersRefusal : ℕ → DescriptorNumbers → List RecordNumber → ℕ
+numbersRefusal bytes d addresses = refusalIn (settingRules bytes d ++ fillingRules bytes d addresses)
+
+-- an image with the first record of a new file with these settings, admitted or not
+abbrev pub imageWith : ℕ → Settings → List ℕ
+imageWith bytes s = firstWritten (zeros bytes) (createdOf s)
+
+-- P6: an extension of 4 entries, all in use, its area at records 2 and 3
+abbrev pub crossing : DescriptorNumbers
+crossing = filled (settings 16 5 4 10) 5 4 1
+
+-- P8: the areas of 4,096, 8,192 and 16,384 entries take 745, 1,490 and 2,979 records of 22 words. All are in use
+abbrev pub areas3 : List RecordNumber
+areas3 = aex 2 ∷ aex 747 ∷ aex 2237 ∷ []
+
+abbrev pub grown : ℕ → DescriptorNumbers
+grown nex = filled (settings 22 4 4096 20) 28673 5216 nex
+
+-- P9: each of the 16 areas of 4,096 entries takes 357 records of 46 words. All are in use where xnext is 65,537
+abbrev pub areas16 : List RecordNumber
+areas16 = map (λ k. aex (2 + 357 * k)) (0 ∷ following 0 15)
+
+abbrev pub most : ℕ → DescriptorNumbers
+most xnext = filled (settings 46 4 4096 10) xnext 5714 16
+
+-- ---- the table
+
+unfoldable pub examples : List Row
+examples =
+    -- file A: section 7 has address 17, data 20. The entry starts at record 3 word 1, so these are words 17 and 20 of that record
+    P 1 (identifierFirst A 1) (pos 7) ∷
+    P 1 (addressFirst A 1) 17 ∷
+    P 1 (adataIn (openOf A (entry 1) .answer)) (pos 20) ∷
+    P 1 (startsAt 20 (sectionWordsOf A (entry 1) (pos 7))) (at 3 17) ∷
+    P 1 (startsAt 20 (dataWordsOf A (entry 1))) (at 3 20) ∷
+    P 1 (bytesOf A (sectionWordsOf A (entry 1) (pos 7))) (following 0 12) ∷
+    P 1 (bytesOf A (dataWordsOf A (entry 1))) (following 100 20) ∷
+    -- entry 2's index is at record 2 word 5
+    P 2 (indexAt A 2) (at 2 5) ∷
+    -- after (2) next is record 4 word 16
+    P 3 (nextIn (validationOf (after2 6) .numbers)) (at 4 16) ∷
+    -- after (3) aex 2 and 5, next record 6 word 12
+    P 4 (validationOf A .addresses) (aex 2 ∷ aex 5 ∷ replicate 14 (aex 0)) ∷
+    P 4 (nextIn (validationOf A .numbers)) (at 6 12) ∷
+    -- A with 5 records: append (3) gives 24; with 6 it does not
+    P 5 (appendOf (after2 5) append3 .refusal) 24 ∷
+    P 5 (appendOf (after2 6) append3 .refusal) 0 ∷
+    -- reclen 16, lind 5: the fourth index starts at offset 15 and crosses a record: its first word and its fifth
+    P 6 (numbersRefusal (offsetOf (16 * 3)) crossing (aex 2 ∷ [])) 0 ∷
+    P 6 (slotOf (growthIn crossing) 1 5 (entry 4) .offset) 15 ∷
+    P 6 (placeOf 16 (slotPositionOf crossing (aex 2 ∷ []) (entry 4))) (at 2 16) ∷
+    P 6 (placeOf 16 (slotPositionOf crossing (aex 2 ∷ []) (entry 4) + 4)) (at 3 4) ∷
+    -- lex1 5, gex 15: 5, 7, 10, 15
+    P 7 (map (capacityOf (growthOf 5 15)) (1 ∷ 2 ∷ 3 ∷ 4 ∷ [])) (5 ∷ 7 ∷ 10 ∷ 15 ∷ []) ∷
+    -- reclen 22, lex1 4,096, gex 20: nex 3 admitted, nex 4 gives 8
+    P 8 (numbersRefusal (offsetOf (22 * 5215)) (grown 3) areas3) 0 ∷
+    P 8 (numbersRefusal (offsetOf (22 * 5215)) (grown 4) areas3) 8 ∷
+    -- lex1 4,096, gex 10, nex 16, reclen 46: 65,536 entries
+    P 9 (totalOf (growthOf 4096 10) 16) 65536 ∷
+    P 9 (numbersRefusal (offsetOf (46 * 5713)) (most 65537) areas16) 0 ∷
+    P 9 (numbersRefusal (offsetOf (46 * 5713)) (most 65538) areas16) 9 ∷
+    -- reclen 15 gives 3, 16 does not: by validate, and by create. 960 bytes are whole records of either
+    P 10 (fileRefusal (imageWith 960 (settings 15 4 2 20))) 3 ∷
+    P 10 (fileRefusal (imageWith 960 (settings 16 4 2 20))) 0 ∷
+    P 10 (creationRefusal 960 (settings 15 4 2 20)) 3 ∷
+    P 10 (creationRefusal 960 (settings 16 4 2 20)) 0 ∷
+    -- lind 2 gives 6, 3 does not: by validate, and by create
+    P 11 (fileRefusal (imageWith 480 (settings 20 2 2 20))) 6 ∷
+    P 11 (fileRefusal (imageWith 480 (settings 20 3 2 20))) 0 ∷
+    P 11 (creationRefusal 480 (settings 20 2 2 20)) 6 ∷
+    P 11 (creationRefusal 480 (settings 20 3 2 20)) 0 ∷
+    -- eight bytes FF are -1
+    P 12 (signedAt integer8 (replicate 8 0xFF) 0) (negℤ (pos 1)) ∷
+    []
