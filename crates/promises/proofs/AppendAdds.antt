@@ -13,6 +13,7 @@ use Rattle.descriptor.specs.declared.numbers.DescriptorNumbers.{DescriptorNumbe
 use Rattle.descriptor.specs.declared.validating.Validated.the-variants.{Numbers}
 use Rattle.descriptor.specs.declared.validating.Validation.{Validation}
 use Rattle.descriptor.specs.FirstRecord.{numbersOf, addressesOf}
+use Rattle.descriptor.specs.Rules.{fileRefusal}
 use Rattle.descriptor.specs.Answers.{validationOf}
 use Rattle.descriptor.proofs.Answered.{file-admitted, answer-numbers, Told, told}
 use Rattle.entry.specs.declared.answers.Opened.{Opened}
@@ -25,7 +26,7 @@ use Rattle.writer.specs.Placing.{numbersAfter, addressesAfter}
 use Rattle.writer.specs.Rules.{appendRefusal}
 use Rattle.writer.specs.Writing.{appended}
 use Rattle.writer.specs.Answers.{fileAfter}
-use Rattle.writer.specs.Bounds.{Accepted}
+use Rattle.writer.specs.Bounds.{Fitting, Accepted}
 use Rattle.writer.proofs.HandedIn.{accepted}
 use Rattle.writer.proofs.Accepting.{after, number-last}
 use Rattle.writer.proofs.ReadBack.{validated-after}
@@ -61,6 +62,42 @@ module _ (f g : List ℕ) (d d′ : DescriptorNumbers) (addresses addresses′ :
       alike : (w : List ℕ → List RecordNumber → DescriptorNumbers → PartPlace) → bytesOf g (w g addresses′ d′) ≡ bytesOf f (w f addresses d)
           → bytesOf g (partIn (validationOf g .numbers) (w g (validationOf g .addresses))) ≡ bytesOf f (partIn (validationOf f .numbers) (w f (validationOf f .addresses)))
       alike w b = ap (bytesOf g) (part-told g d′ addresses′ q (w g)) ∙ b ∙ sym (ap (bytesOf f) (part-told f d addresses p (w f)))
+
+-- ---- the new entry of an admitted file
+
+module _ (file : List ℕ) (h : Handed) (g : Integers h) (z : fileRefusal file ≡ 0) (a : appendRefusal (length file) (numbersOf file) h ≡ 0) where
+  abbrev number : EntryNumber
+  number = numbersOf file .xnext
+
+  fits-there : Fitting (numbersOf file) h
+  fits-there = accepted (numbersOf file) h (length file) (addressesOf file (numbersOf file .nex)) (file-admitted file z) a .fitting
+
+  -- number n + 1 finds what was handed in
+  sections-new : map (sectionRead (fileAfter file h) number) (take (nsecIn h) (openOf (fileAfter file h) number .sections .identifiers))
+      ≡ sectionsCut (h .ids) (h .lengths) (h .sections)
+  unfolding sectionRead
+  sections-new =
+      let read = sectionRead (fileAfter file h) number in
+      ap (λ (o : Opened). map read (take (nsecIn h) (o .sections .identifiers))) (opened-again file h g z a)
+      ∙ ap (map read) (places-all (h .ids) 64 (fits-there .few))
+      ∙ cut-read read (h .ids) (h .lengths) (h .sections) (fits-there .pairs)
+      (λ i l. λ j. record { identifier = getD (h .ids) i (pos 0); bytes = section-again file h g z a i l j })
+
+  content-new : contentRead (fileAfter file h) number (h .version) (nsecIn h) ≡ handedContent h
+  unfolding contentRead handedContent
+  content-new = λ i. record {
+    version = h .version;
+    index = index-again file h g z a i;
+    sections = sections-new i;
+    values = data-again file h g z a i;
+  }
+
+  pub reading-new : readingOf (fileAfter file h) number ≡ holds (handedContent h)
+  unfolding readingAs
+  reading-new =
+      ap (λ (o : Opened). readingAs (fileAfter file h) number (o .answer)) (opened-again file h g z a) ∙ ap holds content-new
+
+-- ---- all entries of a sound file
 
 module _ (file : List ℕ) (h : Handed) (g : Integers h) (s : Sound file) (a : appendRefusal (length file) (numbersOf file) h ≡ 0) where
   abbrev d : DescriptorNumbers
@@ -105,31 +142,6 @@ module _ (file : List ℕ) (h : Handed) (g : Integers h) (s : Sound file) (a : a
   reading-old : (k : ℕ) → 1 ≤ k → k ≤ entriesBefore (d .xnext) → readingOf new (record { 0 = k }) ≡ readingOf file (record { 0 = k })
   reading-old k l m = reading-there file new d then addresses areasThen (record { 0 = k }) before-shown after-shown (entry-agrees file d addresses h admits (s .inside) k l m)
 
-  -- number n + 1 finds what was handed in
-  sections-new : map (sectionRead (fileAfter file h) (d .xnext)) (take (nsecIn h) (openOf (fileAfter file h) (d .xnext) .sections .identifiers))
-      ≡ sectionsCut (h .ids) (h .lengths) (h .sections)
-  unfolding sectionRead
-  sections-new =
-      let read = sectionRead (fileAfter file h) (d .xnext) in
-      ap (λ (o : Opened). map read (take (nsecIn h) (o .sections .identifiers))) (opened-again file h g (s .admitted) a)
-      ∙ ap (map read) (places-all (h .ids) 64 (admits .fitting .few))
-      ∙ cut-read read (h .ids) (h .lengths) (h .sections) (admits .fitting .pairs)
-      (λ i l. λ j. record { identifier = getD (h .ids) i (pos 0); bytes = section-again file h g (s .admitted) a i l j })
-
-  content-new : contentRead (fileAfter file h) (d .xnext) (h .version) (nsecIn h) ≡ handedContent h
-  unfolding contentRead handedContent
-  content-new = λ i. record {
-    version = h .version;
-    index = index-again file h g (s .admitted) a i;
-    sections = sections-new i;
-    values = data-again file h g (s .admitted) a i;
-  }
-
-  reading-new : readingOf (fileAfter file h) (d .xnext) ≡ holds (handedContent h)
-  unfolding readingAs
-  reading-new =
-      ap (λ (o : Opened). readingAs (fileAfter file h) (d .xnext) (o .answer)) (opened-again file h g (s .admitted) a) ∙ ap holds content-new
-
   -- so the contents are those before, and then what was handed in
   pub append-contents : contents (fileAfter file h) ≡ contents file ++ (holds (handedContent h) ∷ [])
   unfolding contents
@@ -138,7 +150,7 @@ module _ (file : List ℕ) (h : Handed) (g : Integers h) (s : Sound file) (a : a
       let count : entriesBefore (then .xnext) ≡ suc n = omega (arith, number-last (length file) d addresses h admits, admits .admitted .counted) in
       let last : suc n ≡ d .xnext .0 = omega (arith, admits .admitted .counted) in
       let newest : found new (suc n) ≡ holds (handedContent h) =
-      (λ i. readingOf new (record { 0 = last i })) ∙ (λ i. readingOf (sym after-file i) (d .xnext)) ∙ reading-new in
+      (λ i. readingOf new (record { 0 = last i })) ∙ (λ i. readingOf (sym after-file i) (d .xnext)) ∙ reading-new file h g (s .admitted) a in
       ap (λ (f : List ℕ). inOrder (found f) (entriesIn (validationOf f .numbers))) after-file
       ∙ ap (λ (v : Validation). inOrder (found new) (entriesIn (v .numbers))) after-shown
       ∙ ap (inOrder (found new)) count

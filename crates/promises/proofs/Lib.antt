@@ -13,3 +13,5 @@ pub mod Series
 pub mod OrderAgain
 pub mod Demand3
 pub mod WorkedExamples
+pub mod Determined
+pub mod Excluded

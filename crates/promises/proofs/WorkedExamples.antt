@@ -1,5 +1,5 @@
 -- The examples that 01 works by hand, P1 to P12, hold of the definitions: by computing. Assumes nothing.
-use mathlib.Core.Path.{refl}
+use mathlib.Core.Path.{_≡_, refl}
 use Rattle.image.specs.Image.{part, splice, zeros}
 use Rattle.words.specs.Word.{number, numeral, bitsAt}
 use Rattle.words.specs.Range.{within, atLeast}
@@ -18,14 +18,14 @@ use Rattle.entry.specs.Tables as tables
 use Rattle.entry.specs.Tables.{identifiersOf, lengthsOf, sectionsOf, sameInteger, sectionNamed}
 use Rattle.entry.specs.Opening as opening
 use Rattle.entry.specs.Opening.{slotPositionOf, entryRefusal, enteredOf}
-use Rattle.entry.specs.Answers.{enteredIn, openedAs, openOf, sectionPart, dataPart, partIn}
+use Rattle.entry.specs.Answers.{enteredIn, openedAs, openOf, numberOf, sectionPart, dataPart, partIn}
 use Rattle.writer.specs.Creation.{firstWritten, creationRefusal, createdFile}
 use Rattle.writer.specs.Handed.{absent, distinct, positive}
 use Rattle.writer.specs.Placing.{full, newArea, afterNewArea, entryStart, nexAfter, numbersAfter, addressesAfter}
 use Rattle.writer.specs.Rules.{appendRefusal}
 use Rattle.writer.specs.Writing.{headFrom, areaWritten, entryWritten, indexWritten, appended}
 use Rattle.writer.specs.Answers.{appendedFrom, fileFrom, appendIn, fileIn}
-use Rattle.promises.specs.Examples.{AllMatch, examples}
+use Rattle.promises.specs.Examples.{AllMatch, examples, entry, withSection, withoutSection, sectionsIn}
 
 -- a row's proof and those of the rows behind it
 infixr 60 _&_
@@ -70,3 +70,16 @@ worked-examples =
     -- P12
     refl &
     record {}
+
+-- the first entries of two files differ: both open, one has a section and the other has none
+pub first-entries : (sectionsIn (openOf withSection (entry 1) .answer) ≡ 1) × (sectionsIn (openOf withoutSection (entry 1) .answer) ≡ 0) × (numberOf (openOf withoutSection (entry 1) .answer) ≡ 0)
+unfolding part splice zeros number numeral bitsAt within atLeast sameBytes
+    positionOf placeOf capacityOf totalOf overOf recordsFor extensionFor slotOf
+    first.codeOf field4 field8 numbersOf createdOf first.addressesOf mexOf entriesFit areaAfter areasStart areasEnd fileRefusal validationOf
+    descriptor.codeOf word4 word8 sectionOf dataOf pieceWithin dataWithin sectionsWithin apart apartFrom sectionsApart dataApart
+    tables.addressesOf identifiersOf lengthsOf sectionsOf sameInteger sectionNamed
+    opening.placeOf slotPositionOf entryRefusal enteredOf enteredIn openedAs openOf sectionPart dataPart partIn
+    firstWritten creationRefusal createdFile absent distinct positive appendRefusal
+    full newArea afterNewArea entryStart nexAfter numbersAfter addressesAfter
+    headFrom areaWritten entryWritten indexWritten appended appendedFrom fileFrom appendIn fileIn
+first-entries = (refl, refl, refl)

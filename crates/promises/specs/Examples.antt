@@ -95,6 +95,21 @@ after3 records = fileAfter (after2 records) append3
 abbrev pub A : List ℕ
 A = after3 6
 
+-- ---- two files that differ in their first entry
+
+-- it has a section
+abbrev pub withSection : List ℕ
+withSection = after1 6
+
+-- it has none
+abbrev pub withoutSection : List ℕ
+withoutSection = fileAfter (created 6) append2
+
+-- nsec in the answer of an open
+abbrev pub sectionsIn : Open → ℕ
+sectionsIn (Numbers place version nsec nword array) = nsec
+sectionsIn (Refused n) = 0
+
 -- ---- what is looked at
 
 -- the first place of an opened entry's tables: the section's identifier, and its address

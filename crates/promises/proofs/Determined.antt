@@ -1,0 +1,42 @@
+-- What each contract determines: two outcomes of a call that both meet its contract are equal, the answer and each lent byte. Every contract of a public function is
+-- one of the relations here, or is an answer alone or bytes alone as a definition has them (`one-answer` and `one-file` of `outcome`). Assumes nothing.
+use Prim.Native.Nat.{ℕ}
+use mathlib.Core.Path.{_≡_, sym, _∙_}
+use mathlib.Core.List.{List}
+use denote.Ref.{RefT}
+use Rattle.outcome.proofs.Determined.{one-outcome}
+use Rattle.geometry.specs.declared.units.RecordNumber.{RecordNumber}
+use Rattle.descriptor.specs.declared.numbers.Settings.{Settings}
+use Rattle.descriptor.specs.declared.numbers.DescriptorNumbers.{DescriptorNumbers}
+use Rattle.entry.specs.declared.answers.PartPlace.{PartPlace}
+use Rattle.entry.specs.Answers.{IsPart}
+use Rattle.writer.specs.declared.appending.Appended.{Appended}
+use Rattle.writer.specs.declared.inner.AppendedFrom.{AppendedFrom}
+use Rattle.writer.specs.Creation.{Creates}
+use Rattle.writer.specs.Handed.{Handed}
+use Rattle.writer.specs.Answers.{Appends, AppendsFrom}
+use Rattle.listing.specs.Listing.{Lists, Prints}
+
+-- a creation has one outcome
+pub create-determined : (file : List ℕ) (s : Settings) (p q : ℕ) (f g : List ℕ) → Creates file s p f → Creates file s q g → (p ≡ q) × (f ≡ g)
+create-determined file s p q f g a b = one-outcome a b
+
+-- so has an append
+pub append-determined : (file : List ℕ) (h : Handed) (p q : Appended) (f g : List ℕ) → Appends file h p f → Appends file h q g → (p ≡ q) × (f ≡ g)
+append-determined file h p q f g a b = one-outcome a b
+
+-- and one to admitted numbers
+pub append-from-determined : (file : List ℕ) (d : DescriptorNumbers) (addresses : List RecordNumber) (h : Handed) (p q : AppendedFrom) (f g : List ℕ)
+    → AppendsFrom file d addresses h p f → AppendsFrom file d addresses h q g → (p ≡ q) × (f ≡ g)
+append-from-determined file d addresses h p q f g a b = one-outcome a b
+
+-- a listing has one outcome, whatever the buffer held
+pub list-determined : (file out : List ℕ) (p q : ℕ) (f g : List ℕ) → Lists file out p f → Lists file out q g → (p ≡ q) × (f ≡ g)
+list-determined file out p q f g a b = one-outcome a b
+
+pub print-determined : (input out : List ℕ) (p q : ℕ) (f g : List ℕ) → Prints input out p f → Prints input out q g → (p ≡ q) × (f ≡ g)
+print-determined input out p q f g a b = one-outcome a b
+
+-- a part that is handed out has its bytes and its place in the lent slice. Its ghost name alone is open, which no program can see
+pub part-determined : (file : RefT (List ℕ)) (p : PartPlace) (r s : RefT (List ℕ)) → IsPart file p r → IsPart file p s → (r .now ≡ s .now) × (r .ptr ≡ s .ptr)
+part-determined file p r s a b = (a .bytes ∙ sym (b .bytes), a .pointer ∙ sym (b .pointer))
