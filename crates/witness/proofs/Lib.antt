@@ -1,2 +1,3 @@
 -- The laws of `witness`.
 mod Promised
+pub mod Determined

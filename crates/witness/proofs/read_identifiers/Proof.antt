@@ -38,7 +38,7 @@ loop-again : tie.Need-loop-again Inv-loop μ-loop
 loop-again c =
     let l = c .before .before .loop in
     let ids = now (c .before .before .before .args .ids) in
-    let here = sfits-of (c .-identifier .given) in
+    let here : SFits integer4 (getD ids (l .done) (pos 0)) = sfits-of (c .-identifier .given) in
     (omega arith, λ i h. elim (decLe (l .done) i) [ yes m ↦ (let q : l .done ≡ i = omega arith in subst (λ (k : ℕ). SFits integer4 (getD ids k (pos 0))) q here) | no m ↦ l .inv .1 i (lt-of-not-le m) ])
 
 returns : tie.Need-returns Inv-loop μ-loop

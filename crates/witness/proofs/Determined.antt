@@ -1,0 +1,13 @@
+-- Two outcomes of `append_twice` that both meet its contract are equal. Assumes nothing.
+use Prim.Native.Nat.{ℕ}
+use mathlib.Core.Path.{_≡_, sym, _∙_}
+use mathlib.Core.List.{List}
+use Rattle.writer.specs.Handed.{Handed}
+use Rattle.witness.specs.declared.Twice.{Twice}
+use Rattle.witness.specs.Twice.{AppendsTwice}
+
+pub twice-determined : (before f g : List ℕ) (h k : Handed) (p q : Twice) → AppendsTwice before f h k p → AppendsTwice before g h k q → (p ≡ q) × (f ≡ g)
+twice-determined before f g h k p q a b =
+    let first = a .first ∙ sym (b .first) in
+    let second = a .second ∙ sym (b .second) in
+    (λ i. record { first = first i; second = second i }, a .bytes ∙ sym (b .bytes))
