@@ -1,6 +1,6 @@
 -- An accepted append to a sound file leaves it sound, keeps what every number up to n finds, and adds what was handed in under number n + 1. Assumes nothing.
 use Prim.Native.Nat.{ℕ, suc, _+_, _*_, _-_, _≤_, _<_}
-use mathlib.Core.Path.{_≡_, refl, sym, ap, subst, subst₂, _∙_}
+use mathlib.Core.Path.{_≡_, refl, sym, ap, subst, _∙_}
 use mathlib.Core.List.{List, [], _∷_, _++_, map}
 use native.Mathlib.Omega.{arith}
 use native.Mathlib.Numerals.{add-one}
@@ -15,7 +15,7 @@ use Rattle.descriptor.specs.declared.validating.Validation.{Validation}
 use Rattle.descriptor.specs.FirstRecord.{numbersOf, addressesOf}
 use Rattle.descriptor.specs.Rules.{fileRefusal}
 use Rattle.descriptor.specs.Answers.{validationOf}
-use Rattle.descriptor.proofs.Answered.{file-admitted, answer-numbers, Told, told}
+use Rattle.descriptor.proofs.Answered.{file-admitted, answer-numbers}
 use Rattle.entry.specs.declared.answers.Opened.{Opened}
 use Rattle.entry.specs.declared.answers.PartPlace.{PartPlace}
 use Rattle.entry.specs.Answers.{openOf, partIn, indexPart, sectionPart, dataPart, indexWordsOf, sectionWordsOf, dataWordsOf, bytesOf}
@@ -33,8 +33,9 @@ use Rattle.writer.proofs.ReadBack.{validated-after}
 use Rattle.writer.proofs.Returned.{openedFrom, file-after, opened-again, index-again, section-again, data-again}
 use Rattle.promises.specs.Contents.{Section, Content, Reading, holds, sectionRead, contentRead, readingAs, readingOf, entriesIn, inOrder, contents}
 use Rattle.promises.specs.Calls.{sectionsCut, handedContent}
-use Rattle.promises.specs.Regions.{SoundIn, Sound}
+use Rattle.promises.specs.Regions.{Sound}
 use Rattle.promises.proofs.Readings.{reading-alike, inOrder-same, places-all, sectionAt, cut-read}
+use Rattle.promises.proofs.Spread.{sound-shown}
 use Rattle.promises.proofs.SoundAfter.{entry-agrees, sound-then}
 
 -- what number k finds
@@ -129,14 +130,10 @@ module _ (file : List ℕ) (h : Handed) (g : Integers h) (s : Sound file) (a : a
   after-file = file-after file h g (s .admitted) a
 
   -- the file is sound again
-  sound-new : Sound new
-  sound-new =
-      let t = told new (validationOf new) then refl (ap (λ (v : Validation). v .numbers) after-shown) in
-      let areas = sym (ap (λ (v : Validation). v .addresses) after-shown) ∙ t .addresses in
-      record { admitted = t .refusal; inside = subst₂ (SoundIn new) (t .numbers) areas (sound-then file d addresses h admits (s .inside) (g .version)) }
-
   pub append-sound : Sound (fileAfter file h)
-  append-sound = subst Sound (sym after-file) sound-new
+  append-sound =
+      subst Sound (sym after-file)
+      (sound-shown new then areasThen after-shown (sound-then file d addresses h admits (s .inside) (g .version)))
 
   -- a number up to n finds what it found
   reading-old : (k : ℕ) → 1 ≤ k → k ≤ entriesBefore (d .xnext) → readingOf new (record { 0 = k }) ≡ readingOf file (record { 0 = k })

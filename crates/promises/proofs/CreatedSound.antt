@@ -18,7 +18,7 @@ use Rattle.writer.specs.Creation.{creationRefusal, createdFile}
 use Rattle.writer.proofs.CreatedBack.{noAddresses, created-admitted, created-validated}
 use Rattle.promises.specs.Contents.{contents}
 use Rattle.promises.specs.Regions.{SoundIn, Sound}
-use Rattle.promises.proofs.Spread.{Spread, spread-apart}
+use Rattle.promises.proofs.Spread.{Spread, spread-apart, sound-shown}
 
 module _ (file : List ℕ) (s : Settings) (e : creationRefusal (length file) s ≡ 0) where
   abbrev new : List ℕ
@@ -50,10 +50,7 @@ module _ (file : List ℕ) (s : Settings) (e : creationRefusal (length file) s �
       }
 
   pub created-sound : Sound new
-  created-sound =
-      let t = told new (validationOf new) d refl (ap (λ (v : Validation). v .numbers) shown) in
-      let areas = sym (ap (λ (v : Validation). v .addresses) shown) ∙ t .addresses in
-      record { admitted = t .refusal; inside = subst₂ (SoundIn new) (t .numbers) areas sound-in }
+  created-sound = sound-shown new d noAddresses shown sound-in
 
   -- the order check finds nothing
   pub created-check : checkOf new ≡ allPass

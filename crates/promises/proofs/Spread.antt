@@ -1,6 +1,6 @@
 -- That no two regions of admitted numbers share a word comes to two facts of the entries: each stands beside every index area, and beside every other. Assumes nothing.
 use Prim.Native.Nat.{ℕ, _+_, _-_, _≤_, _<_}
-use mathlib.Core.Path.{_≡_, refl, sym, ap}
+use mathlib.Core.Path.{_≡_, refl, sym, ap, subst₂, _∙_}
 use mathlib.Core.Logic.{_⊎_, inl, inr}
 use mathlib.Core.List.{List}
 use native.Mathlib.Omega.{arith}
@@ -11,13 +11,17 @@ use Rattle.geometry.specs.declared.units.RecordNumber.{RecordNumber}
 use Rattle.geometry.specs.declared.units.EntryNumber.{EntryNumber}
 use Rattle.geometry.specs.Units.{positionOf, entriesBefore}
 use Rattle.descriptor.specs.declared.numbers.DescriptorNumbers.{DescriptorNumbers}
+use Rattle.descriptor.specs.declared.validating.Validated.the-variants.{Numbers}
+use Rattle.descriptor.specs.declared.validating.Validation.{Validation}
 use Rattle.descriptor.specs.FirstRecord.{freeOf}
 use Rattle.descriptor.specs.Bounds.{Admitted}
+use Rattle.descriptor.specs.Answers.{validationOf}
+use Rattle.descriptor.proofs.Answered.{told}
 use Rattle.entry.specs.declared.opening.Entered.{Entered}
 use Rattle.entry.specs.Opening.{slotPositionOf, placeOf, entryRefusal, enteredOf}
 use Rattle.entry.proofs.Entering.{entry-opens, entered-numbers}
 use Rattle.order.specs.Order.{areaStartOf, areaEndOf, endOf}
-use Rattle.promises.specs.Regions.{Region, firstRecord, area, entry, InUse, fromOf, toOf, NoneShared}
+use Rattle.promises.specs.Regions.{Region, firstRecord, area, entry, InUse, fromOf, toOf, NoneShared, SoundIn, Sound}
 use Rattle.promises.proofs.Areas.{area-behind, areas-order}
 
 -- the words a to b and c to d: one run ends before the other starts
@@ -91,3 +95,11 @@ module _ (file : List ℕ) (d : DescriptorNumbers) (addresses : List RecordNumbe
         → Clear (entryAt file d addresses e .start) (endOf (entryAt file d addresses e)) (entryAt file d addresses f .start) (endOf (entryAt file d addresses f))
     unfolding fromOf toOf
     apart-entry e f l h m = n (entry e) (entry f) (l, omega arith) (omega arith, m) (λ q. let same : e ≡ f = cc in omega arith)
+
+-- a file whose validation shows sound numbers is sound
+pub sound-shown : (file : List ℕ) (d : DescriptorNumbers) (addresses : List RecordNumber)
+    → validationOf file ≡ record { refusal = 0; numbers = Numbers d; addresses = addresses } → SoundIn file d addresses → Sound file
+sound-shown file d addresses shown s =
+    let t = told file (validationOf file) d refl (ap (λ (v : Validation). v .numbers) shown) in
+    let areas = sym (ap (λ (v : Validation). v .addresses) shown) ∙ t .addresses in
+    record { admitted = t .refusal; inside = subst₂ (SoundIn file) (t .numbers) areas s }
