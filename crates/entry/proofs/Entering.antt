@@ -1,12 +1,12 @@
 -- What the rules 12 to 19 leave of an entry of admitted numbers, once they are passed. Assumes nothing.
-use Prim.Native.Nat.{ℕ, _+_, _*_, _-_, _/_, _^_, _≤_, _<_}
+use Prim.Native.Nat.{ℕ, _+_, _*_, _-_, _^_, _≤_, _<_}
 use mathlib.Core.Path.{_≡_, refl, sym, ap, _∙_}
 use mathlib.Core.Bool.{Bool, true, false, cond}
 use mathlib.Core.List.{List, _++_}
 use native.Mathlib.Omega.{arith}
 use native.Mathlib.Nat.{mul-le-mul-left, mul-le-mul-right}
 use borrow.Author.Tests.{leb-true, eqb-true}
-use lib.Dec.{leb, eqb}
+use lib.Dec.{eqb}
 use lib.ListN.{length}
 use mir.Syntax.{w32, w64}
 use Rattle.words.specs.Code.{sameBytes}
@@ -16,16 +16,15 @@ use Rattle.geometry.specs.declared.units.EntryNumber.{EntryNumber}
 use Rattle.geometry.specs.declared.units.Place.{Place}
 use Rattle.geometry.specs.Units.{positionOf, entriesBefore}
 use Rattle.geometry.specs.Growth.{capacityOf}
-use Rattle.geometry.specs.Area.{slotOf, areaRecords}
+use Rattle.geometry.specs.Area.{slotOf}
 use Rattle.geometry.proofs.Slots.{Stands, slot-stands, slot-within, records-hold}
 use Rattle.descriptor.specs.declared.numbers.DescriptorNumbers.{DescriptorNumbers}
 use Rattle.descriptor.specs.Refusal.{Rule, refusalIn, AllHold}
-use Rattle.descriptor.specs.FirstRecord.{growthIn, freeOf, aexOf}
-use Rattle.descriptor.specs.Rules.{areaAfter}
+use Rattle.descriptor.specs.FirstRecord.{growthIn, freeOf}
 use Rattle.descriptor.specs.Bounds.{Admitted, Settled, Free}
 use Rattle.descriptor.proofs.Refusals.{refusal-append, all-hold, hold-split}
 use Rattle.descriptor.proofs.Fitting.{fit-reach}
-use Rattle.descriptor.proofs.AreaOrder.{area-ends, area-words, area-first}
+use Rattle.descriptor.proofs.AreaOrder.{area-ends, area-words}
 use Rattle.entry.specs.EntryDescriptor.{codeOf, entryCode, nsecOf, nwordOf, xnumOf, dataOf}
 use Rattle.entry.specs.Contents.{dataWithin, sectionsWithin, sectionsApart, dataApart}
 use Rattle.entry.specs.Opening.{slotPositionOf, placeOf, startOf, numberRules, startRules, headRules, contentRules, startRefusal, headRefusal, contentRefusal, entryRules, entryRefusal, notEntered, enteredAt, enteredOf}

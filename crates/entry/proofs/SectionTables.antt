@@ -8,8 +8,7 @@ use borrow.Author.Count.{below-more, below-none}
 use borrow.Author.Tests.{leb-true, le-leb}
 use lib.Dec.{leb}
 use lib.IntN.{ℤ, pos, negsuc, ℤ-discrete}
-use lib.ListN.{length, getD}
-use Rattle.words.specs.Table.{places}
+use lib.ListN.{length}
 use Rattle.words.proofs.Table.{length-places}
 use Rattle.entry.specs.EntryDescriptor.{identifierAt}
 use Rattle.entry.specs.Tables.{identifiersOf, lengthsOf, addressesOf, sameInteger, sectionNamed}

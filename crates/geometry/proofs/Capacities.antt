@@ -9,7 +9,7 @@ use native.Mathlib.Numerals.{add-one}
 use borrow.Author.Tests.{ltb-false}
 use lib.Dec.{T, ltb}
 use Rattle.geometry.specs.declared.growth.Growth.{Growth}
-use Rattle.geometry.specs.Growth.{grownOf, capacityOf, totalOf, overOf}
+use Rattle.geometry.specs.Growth.{capacityOf, totalOf, overOf}
 use Rattle.geometry.proofs.Steps.{capacity-step, over-step}
 
 or-left : (a b : Bool) → a || b ≡ false → a ≡ false

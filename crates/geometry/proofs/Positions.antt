@@ -1,12 +1,11 @@
 -- Positions and places are inverse to each other, and so are positions and addresses of an entry. Assumes nothing.
-use mathlib.Core.Path.{_≡_, refl, ap, _∙_}
+use mathlib.Core.Path.{_≡_, ap, _∙_}
 use Prim.Native.Nat.{ℕ, _+_, _*_, _-_, _/_, _%_, _≤_, _<_}
 use native.Mathlib.Omega.{arith}
 use native.Mathlib.Nat.{div-add-mod', mod-lt, mul-le-mul-right, mul-add-div-right, mul-add-mod-self-right, div-eq-of-lt, mod-eq-of-lt}
 use Rattle.geometry.specs.declared.units.RecordNumber.{RecordNumber}
 use Rattle.geometry.specs.declared.units.WordNumber.{WordNumber}
 use Rattle.geometry.specs.declared.units.EntryAddress.{EntryAddress}
-use Rattle.geometry.specs.declared.units.Place.{Place}
 use Rattle.geometry.specs.Units.{positionOf, placeOf, entryPositionOf, entryAddressOf, offsetOf, firstRecordOffsetOf}
 
 -- the place of a position has that position

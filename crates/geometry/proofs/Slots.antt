@@ -1,7 +1,7 @@
 -- Laws of records and slots: an area is just large enough, and the slots of different entries are apart and within it. Assumes nothing.
-use mathlib.Core.Path.{_≡_, refl, sym, ap, _∙_}
+use mathlib.Core.Path.{_≡_, refl, ap}
 use mathlib.Core.Bool.{Bool, true, false, cond}
-use Prim.Native.Nat.{ℕ, zero, suc, _+_, _*_, _-_, _/_, _%_, _≤_, _<_}
+use Prim.Native.Nat.{ℕ, zero, suc, _+_, _*_, _-_, _≤_, _<_}
 use native.Mathlib.Omega.{arith}
 use native.Mathlib.Nat.{div-add-mod', mod-lt, mul-le-mul-right, div-lt-iff-lt-mul, lt-of-not-le}
 use native.Mathlib.Decide.{decLe}
@@ -11,7 +11,7 @@ use Rattle.geometry.specs.declared.growth.Growth.{Growth}
 use Rattle.geometry.specs.declared.units.EntryNumber.{EntryNumber}
 use Rattle.geometry.specs.declared.area.Slot.{Slot}
 use Rattle.geometry.specs.Growth.{capacityOf, totalOf}
-use Rattle.geometry.specs.Area.{recordsFor, areaRecords, extensionFor, slotAt, slotOf}
+use Rattle.geometry.specs.Area.{recordsFor, extensionFor, slotAt, slotOf}
 use Rattle.geometry.proofs.Capacities.{total-le, total-last, total-none}
 
 -- ---- records

@@ -1,16 +1,12 @@
 -- Laws of the order check: one entry's refusal by its tests, and the scan one entry after the other. Assumes nothing.
-use Prim.Native.Nat.{ℕ, zero, suc, _+_, _-_, _≤_, _<_}
-use mathlib.Core.Path.{_≡_, refl, sym, ap, _∙_}
-use mathlib.Core.Bool.{Bool, true, false, cond}
+use Prim.Native.Nat.{ℕ, zero, suc, _+_, _-_, _≤_}
+use mathlib.Core.Path.{_≡_, refl, ap}
+use mathlib.Core.Bool.{true, false}
 use mathlib.Core.List.{List}
 use native.Mathlib.Omega.{arith}
-use native.Mathlib.Numerals.{add-one}
-use borrow.Author.Tests.{eqb-true, eqb-false}
 use lib.Dec.{eqb}
 use Rattle.geometry.specs.declared.units.RecordNumber.{RecordNumber}
-use Rattle.geometry.specs.declared.units.EntryNumber.{EntryNumber}
 use Rattle.geometry.specs.declared.area.Slot.{Slot}
-use Rattle.geometry.specs.Units.{entriesBefore}
 use Rattle.geometry.specs.Area.{slotOf}
 use Rattle.descriptor.specs.declared.numbers.DescriptorNumbers.{DescriptorNumbers}
 use Rattle.descriptor.specs.declared.validating.Validated.{Validated}
@@ -20,7 +16,6 @@ use Rattle.descriptor.specs.Answers.{validationOf}
 use Rattle.entry.specs.declared.opening.Entered.{Entered}
 use Rattle.entry.specs.Opening.{enteredOf}
 use Rattle.entry.proofs.Entering.{entry-number, entered-refused}
-use Rattle.order.specs.declared.checking.Checked.{Checked}
 use Rattle.order.specs.Order.{endOf, startsInOrder, endsInOrder, orderRefusal, allPass, checkedFrom, checkedIn, checkOf}
 
 module _ (file : List ℕ) (d : DescriptorNumbers) (addresses : List RecordNumber) where

@@ -5,7 +5,7 @@ use mathlib.Core.List.{List, [], _∷_}
 use Rattle.writer.specs.declared.appending.Appended.{Appended}
 use Rattle.writer.specs.Handed.{Handed, Integers}
 use Rattle.writer.specs.Answers.{appendOf, fileAfter, Appends}
-use Rattle.promises.specs.Calls.{Call, append}
+use Rattle.promises.specs.Calls.{append}
 use Rattle.promises.specs.Demand.{Promised}
 use Rattle.promises.proofs.Demand3.{demand-3}
 use Rattle.witness.specs.declared.Twice.{Twice}

@@ -8,7 +8,7 @@ use mir.Val.{SFits}
 use Rattle.words.specs.Word.{integer4}
 use Rattle.writer.specs.Handed.{Handed}
 use Rattle.writer.specs.Answers.{appendOf, fileAfter}
-use Rattle.promises.specs.Calls.{Call, append}
+use Rattle.promises.specs.Calls.{append}
 use Rattle.promises.specs.Demand.{Start, Promised}
 use Rattle.witness.specs.declared.Twice.{Twice}
 

@@ -7,7 +7,7 @@ use lib.ListN.{length}
 use Rattle.geometry.specs.declared.units.RecordNumber.{RecordNumber}
 use Rattle.geometry.specs.Growth.{capacityOf}
 use Rattle.descriptor.specs.declared.numbers.DescriptorNumbers.{DescriptorNumbers}
-use Rattle.descriptor.specs.FirstRecord.{mexOf, growthIn, freeOf}
+use Rattle.descriptor.specs.FirstRecord.{mexOf, growthIn}
 use Rattle.descriptor.specs.Bounds.{Admitted}
 use Rattle.writer.specs.Handed.{Handed, sumOf, positive, nwordIn}
 use Rattle.writer.specs.Placing.{full, entryStart}

@@ -2,7 +2,6 @@
 use mathlib.Core.Path.{_≡_, ap, _∙_}
 use borrow.Author.Needs.{needs, sfits-of}
 use lib.ListN.{length}
-use Rattle.descriptor.specs.declared.numbers.Settings.{Settings}
 use Rattle.writer.specs.Creation.{creationRefusal, createdFile}
 use Rattle.classic.specs.Answers.{settingsFrom}
 use Rattle.classic.proofs.Crossing.{passed, settings-passed}

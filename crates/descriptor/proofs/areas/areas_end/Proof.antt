@@ -1,5 +1,4 @@
 -- `descriptor::areas::areas_end` meets its contract. Assumes nothing.
-use mathlib.Core.Path.{_≡_, refl, sym, ap, _∙_}
 use native.Mathlib.Omega.{arith}
 use Rattle.descriptor.specs.Rules.{areasEnd}
 use Rattle.descriptor.proofs.AreaOrder.{after-low}

@@ -1,12 +1,11 @@
 -- `descriptor::inner::area_after` meets its contract. Assumes nothing.
-use mathlib.Core.Path.{_≡_, refl, sym, ap, _∙_}
-use Prim.Native.Nat.{_-_, _+_, _^_, _≤_, _<_}
+use mathlib.Core.Path.{_≡_, sym, ap}
+use Prim.Native.Nat.{_-_, _+_, _^_, _<_}
 use native.Mathlib.Omega.{arith}
 use Rattle.geometry.specs.declared.units.RecordNumber.{RecordNumber}
 use Rattle.geometry.specs.Area.{areaRecords}
 use Rattle.geometry.specs.Growth.{capacityOf}
 use Rattle.geometry.proofs.Capacities.{capacity-limit}
-use Rattle.descriptor.specs.Rules.{areaAfter}
 use Rattle.descriptor.specs.FirstRecord.{growthIn, aexOf}
 use Rattle.descriptor.proofs.AreaOrder.{after-none, after-next, area-low, area-small, growing}
 use borrow.Author.Needs.{needs}

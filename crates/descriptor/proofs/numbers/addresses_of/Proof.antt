@@ -1,11 +1,11 @@
 -- `descriptor::numbers::addresses_of` meets its contract. The loop's invariant: the places passed hold their addresses, the others zero. Assumes nothing.
-use mathlib.Core.Path.{_≡_, refl, sym, ap, _∙_}
-use Prim.Native.Nat.{ℕ, _+_, _*_, _-_, _≤_}
+use mathlib.Core.Path.{_≡_, refl, ap, _∙_}
+use Prim.Native.Nat.{ℕ, _-_, _≤_}
 use mathlib.Core.List.{List}
 use native.Mathlib.Omega.{arith}
 use lib.ListN.{set}
 use Rattle.words.specs.Table.{places}
-use Rattle.words.proofs.Table.{places-next, length-places}
+use Rattle.words.proofs.Table.{places-next}
 use Rattle.geometry.specs.declared.units.RecordNumber.{RecordNumber}
 use Rattle.descriptor.specs.FirstRecord.{addressAt, addressesOf}
 use Rattle.descriptor.proofs.numbers.addresses_of.Statement.{statement}

@@ -1,14 +1,13 @@
 -- `descriptor::validating::validate` meets its contract: the parts of the table are tested in turn. Assumes nothing.
-use Prim.Native.Nat.{ℕ, _≤_}
-use mathlib.Core.Path.{_≡_, refl, sym, ap, _∙_}
-use mathlib.Core.Bool.{true, false, cond}
+use Prim.Native.Nat.{ℕ}
+use mathlib.Core.Path.{_≡_, refl, sym, _∙_}
+use mathlib.Core.Bool.{true, cond}
 use mathlib.Core.List.{List}
 use native.Mathlib.Omega.{arith}
-use borrow.Author.Tests.{le-leb, lt-leb, eq-eqb, ne-eqb}
+use borrow.Author.Tests.{le-leb, lt-leb, ne-eqb}
 use lib.Dec.{leb, eqb}
 use lib.ListN.{length}
-use Rattle.words.specs.Code.{sameBytes}
-use Rattle.descriptor.specs.FirstRecord.{codeOf, fileCode, numbersOf, addressesOf}
+use Rattle.descriptor.specs.FirstRecord.{numbersOf, addressesOf}
 use Rattle.descriptor.specs.Bounds.{Settled}
 use Rattle.descriptor.specs.Rules.{settingRefusal, fillingRefusal, fileRefusal}
 use Rattle.descriptor.proofs.Tests.{holds, broken}

@@ -6,10 +6,10 @@ use borrow.Author.Tests.{le-leb, lt-leb, ne-eqb}
 use lib.ListN.{length}
 use mir.Facts.{toZ-ofZ}
 use Rattle.geometry.specs.Units.{entriesBefore}
-use Rattle.descriptor.specs.Refusal.{refusalIn, AllHold}
+use Rattle.descriptor.specs.Refusal.{refusalIn}
 use Rattle.descriptor.specs.FirstRecord.{freeOf}
 use Rattle.entry.specs.EntryDescriptor.{word4, versionOf, nsecOf, nwordOf, dataOf}
-use Rattle.entry.specs.Opening.{slotPositionOf, placeOf, startOf, numberRules, startRefusal, headRefusal, contentRefusal, entryRefusal, enteredAt}
+use Rattle.entry.specs.Opening.{slotPositionOf, placeOf, startOf, numberRules, startRefusal, headRefusal, entryRefusal, enteredAt}
 use Rattle.entry.specs.Bounds.{Described}
 use Rattle.entry.proofs.Entering.{free-within, slot-inside, start-bounds, start-rows, head-rows, head-bounds, entry-number, entry-start, entry-head, entry-content, entered-numbers, entered-refused}
 use borrow.Author.Needs.{needs, sfits-of}

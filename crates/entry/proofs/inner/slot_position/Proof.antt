@@ -1,6 +1,6 @@
 -- `entry::inner::slot_position` meets its contract. Assumes nothing.
-use Prim.Native.Nat.{_+_, _*_, _≤_}
-use mathlib.Core.Path.{_≡_, sym, ap, _∙_}
+use Prim.Native.Nat.{_+_}
+use mathlib.Core.Path.{_≡_}
 use native.Mathlib.Omega.{arith}
 use Rattle.geometry.specs.Units.{entriesBefore}
 use Rattle.geometry.specs.Area.{slotOf}

@@ -1,5 +1,5 @@
 -- `geometry::growth::capacity` meets its contract, by recursion on the extension's number. Assumes nothing.
-use mathlib.Core.Path.{_≡_, refl, sym, ap, _∙_}
+use mathlib.Core.Path.{_≡_, sym, ap, _∙_}
 use Prim.Native.Nat.{_-_, _+_}
 use native.Mathlib.Omega.{arith}
 use Rattle.geometry.specs.Growth.{grownOf, capacityOf}

@@ -1,5 +1,5 @@
 -- `order::checking::check_order` meets its contract. Assumes nothing.
-use mathlib.Core.Path.{_≡_, sym, ap, _∙_}
+use mathlib.Core.Path.{sym, ap, _∙_}
 use Prim.Native.Nat.{ℕ}
 use Rattle.descriptor.specs.Answers.{numberOf}
 use Rattle.descriptor.proofs.Answered.{told}

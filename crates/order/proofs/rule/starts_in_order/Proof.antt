@@ -1,6 +1,5 @@
 -- `order::rule::starts_in_order` meets its contract. Assumes nothing.
-use Prim.Native.Nat.{ℕ, _*_, _-_, _^_, _≤_}
-use mathlib.Core.Path.{_≡_, sym}
+use Prim.Native.Nat.{_-_, _≤_}
 use native.Mathlib.Omega.{arith}
 use native.Mathlib.Nat.{mul-le-mul-left}
 use borrow.Author.Tests.{eq-eqb, ne-eqb}

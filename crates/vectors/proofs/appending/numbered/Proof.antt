@@ -1,7 +1,5 @@
 -- `vectors::appending::numbered` is safe and ends: the identifiers passed are at most 65.
 use Prim.Native.Nat.{_-_, _≤_}
-use mathlib.Core.Path.{_≡_}
-use lib.ListN.{length}
 use borrow.Author.Needs.{needs}
 use Rattle.vectors.proofs.appending.numbered.Statement.{statement}
 use Rattle.vectors.proofs.appending.numbered.Tie as tie

@@ -2,7 +2,6 @@
 use Prim.Native.Nat.{_-_, _≤_, _/_}
 use mathlib.Core.Path.{_≡_}
 use lib.ListN.{length}
-use borrow.Author.Needs.{needs}
 use native.Mathlib.Omega.{arith}
 use Rattle.vectors.proofs.printing.words_of.Statement.{statement}
 use Rattle.vectors.proofs.printing.words_of.Tie as tie
