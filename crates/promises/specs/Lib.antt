@@ -1,5 +1,6 @@
--- What the theorems of `promises` speak of: the contents of a file, a series of calls, the regions of a file, and demand 3.
+-- What the theorems of `promises` speak of: the contents of a file, a series of calls, the regions of a file, the tests of each call, and demand 3.
 pub mod Contents
 pub mod Calls
 pub mod Regions
+pub mod Tables
 pub mod Demand
