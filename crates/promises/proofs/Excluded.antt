@@ -44,7 +44,7 @@ use Rattle.promises.specs.Calls.{Call, AllFit, run, answers, handedConte
 use Rattle.promises.specs.Demand.{Start, entriesOf}
 use Rattle.promises.specs.Examples.{entry, withSection, withoutSection, sectionsIn}
 use Rattle.promises.proofs.Readings.{length-contents}
-use Rattle.promises.proofs.Refusing.{refusalThere, answer-there, number-there}
+use Rattle.promises.proofs.AppendNumbers.{answer-there, number-there}
 use Rattle.promises.proofs.AppendAdds.{reading-new}
 use Rattle.promises.proofs.Demand3.{start-ordered, demand-3}
 use Rattle.promises.proofs.OrderPassed.{check-passed}

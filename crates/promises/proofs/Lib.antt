@@ -1,4 +1,4 @@
--- The theorems, from the inside out. Demand 3 is stated in Demand3.
+-- The theorems, from the inside out. Demand 3 is stated in Demand3; what a refusal means in RefusalMeans and CheckMeans, and what it leaves in RefusedAnswers.
 pub mod Areas
 pub mod Spread
 pub mod EntriesStay
@@ -8,10 +8,13 @@ pub mod OrderSound
 pub mod CreatedSound
 pub mod Readings
 pub mod AppendAdds
-pub mod Refusing
+pub mod AppendNumbers
+pub mod RefusedAnswers
 pub mod Series
 pub mod OrderAgain
 pub mod Demand3
+pub mod RefusalMeans
+pub mod CheckMeans
 pub mod WorkedExamples
 pub mod Determined
 pub mod Excluded

@@ -6,7 +6,7 @@ use mathlib.Core.List.{List, [], _∷_}
 use native.Mathlib.Omega.{arith}
 use native.Mathlib.Nat.{lt-of-not-le}
 use native.Mathlib.Decide.{decLe}
-use borrow.Author.Tests.{eqb-true}
+use borrow.Author.Tests.{eqb-true, eqb-false}
 use lib.Dec.{eqb}
 use lib.ListN.{length}
 use mir.Val.{SFits}
@@ -42,7 +42,8 @@ use Rattle.promises.proofs.Spread.{entryAt}
 use Rattle.promises.proofs.SoundAfter.{by-last, by-area, entries-then, nex-then, area-from, area-to, area-new, entry-same, start-last, old-end, areas-before, opens-then}
 use Rattle.promises.proofs.OrderPassed.{slotAt, Passed, check-passes, check-passed}
 use Rattle.promises.proofs.OrderSound.{order-sound}
-use Rattle.promises.proofs.Refusing.{answer-there, append-refused}
+use Rattle.promises.proofs.AppendNumbers.{answer-there}
+use Rattle.promises.proofs.RefusedAnswers.{append-kept}
 
 -- ---- one accepted append
 
@@ -157,7 +158,7 @@ append-again file h g c =
     ap checkOf (file-after file h g (p .0) a)
     ∙ check-passes (appended file d addresses h) (after (length file) d addresses h x) (addressesAfter d addresses) (validated-after file h (p .0) x)
     (all-passed file d addresses h x (s .inside) (g .version) (p .1)))
-    (λ q. ap checkOf (append-refused file h q .0) ∙ c)
+    (λ q. ap checkOf (append-kept file h (eqb-false (appendOf file h .refusal) 0 q)) ∙ c)
 
 -- the order check passes again
 pub run-ordered : (calls : List Call) → AllFit calls → (file : List ℕ) → checkOf file ≡ allPass → checkOf (run calls file) ≡ allPass

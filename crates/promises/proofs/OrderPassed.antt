@@ -122,7 +122,7 @@ module _ (file : List ℕ) (d : DescriptorNumbers) (addresses : List RecordNumbe
       (λ q. (eqb-true n 0 q, rw q at e))
       (λ q. absurd (eqb-false n 0 q (ap (λ (c : Checked). c .refusal) (rw q at e))))
 
-  scan-all : (k left : ℕ) → checkedFrom file d addresses k left ≡ allPass → (e : ℕ) → k ≤ e → e < k + left → orderRefusal file d addresses (record { 0 = e }) ≡ 0
+  pub scan-all : (k left : ℕ) → checkedFrom file d addresses k left ≡ allPass → (e : ℕ) → k ≤ e → e < k + left → orderRefusal file d addresses (record { 0 = e }) ≡ 0
   unfolding checkedFrom
   scan-all k zero q e l h = absurd (omega arith)
   scan-all k (suc left) q e l h =
@@ -132,7 +132,7 @@ module _ (file : List ℕ) (d : DescriptorNumbers) (addresses : List RecordNumbe
         | no m ↦ (let more = lt-of-not-le m in scan-all (k + 1) left (both .1) e (omega arith) (omega arith))
       ]
 
-  scan-pass : (k left : ℕ) → ((e : ℕ) → k ≤ e → e < k + left → orderRefusal file d addresses (record { 0 = e }) ≡ 0) → checkedFrom file d addresses k left ≡ allPass
+  pub scan-pass : (k left : ℕ) → ((e : ℕ) → k ≤ e → e < k + left → orderRefusal file d addresses (record { 0 = e }) ≡ 0) → checkedFrom file d addresses k left ≡ allPass
   unfolding checkedFrom
   scan-pass k zero all = refl
   scan-pass k (suc left) all = rw (all k (omega arith) (omega arith)) (scan-pass (k + 1) left (λ e l h. all e (omega arith) (omega arith)))

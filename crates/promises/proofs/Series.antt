@@ -5,7 +5,7 @@ use mathlib.Core.Path.{_≡_, refl, sym, ap, ap₂, subst, _∙_}
 use mathlib.Core.Bool.{Bool, true, false, cond}
 use mathlib.Core.List.{List, [], _∷_, _++_, append-assoc, append-nil}
 use native.Mathlib.Omega.{arith}
-use borrow.Author.Tests.{eqb-true, eq-eqb}
+use borrow.Author.Tests.{eqb-true, eqb-false, eq-eqb}
 use lib.Dec.{eqb}
 use lib.ListN.{length, length-append}
 use Rattle.geometry.specs.declared.units.EntryNumber.{EntryNumber}
@@ -24,7 +24,8 @@ use Rattle.promises.specs.Calls.{Call, append, Fits, AllFit, answerOf, a
 use Rattle.promises.specs.Regions.{Sound}
 use Rattle.promises.specs.Demand.{entriesOf}
 use Rattle.promises.proofs.Readings.{length-contents}
-use Rattle.promises.proofs.Refusing.{refusalThere, answer-there, number-there, append-refused}
+use Rattle.promises.proofs.AppendNumbers.{refusalThere, answer-there, number-there}
+use Rattle.promises.proofs.RefusedAnswers.{append-kept}
 use Rattle.promises.proofs.AppendAdds.{append-sound, append-contents}
 
 -- ---- one call
@@ -37,13 +38,13 @@ module _ (file : List ℕ) (s : Sound file) (h : Handed) (g : Integers h) where
       (λ q. f (sym (answer-there file h (s .admitted)) ∙ eqb-true (appendOf file h .refusal) 0 q) q) k
 
   sound-append : Sound (fileAfter file h)
-  sound-append = by-answer (λ a q. append-sound file h g s a) (λ q. subst Sound (sym (append-refused file h q .0)) s)
+  sound-append = by-answer (λ a q. append-sound file h g s a) (λ q. subst Sound (sym (append-kept file h (eqb-false (appendOf file h .refusal) 0 q))) s)
 
   contents-append : contents (fileAfter file h) ≡ contents file ++ added (append h) (appendOf file h)
   contents-append =
       by-answer
       (λ a q. append-contents file h g s a ∙ sym (ap (λ (b : Bool). contents file ++ cond b (holds (handedContent h) ∷ []) []) q))
-      (λ q. ap contents (append-refused file h q .0)
+      (λ q. ap contents (append-kept file h (eqb-false (appendOf file h .refusal) 0 q))
       ∙ sym (append-nil (contents file))
       ∙ sym (ap (λ (b : Bool). contents file ++ cond b (holds (handedContent h) ∷ []) []) q))
 

@@ -1,6 +1,7 @@
--- What the theorems of `promises` speak of: the contents of a file, a series of calls, the regions of a file, and demand 3; and the table of worked examples.
+-- What the theorems of `promises` speak of: the contents of a file, a series of calls, the regions of a file, the tests of each call, demand 3, and the table of worked examples.
 pub mod Contents
 pub mod Calls
 pub mod Regions
+pub mod Tables
 pub mod Demand
 pub mod Examples

@@ -1,0 +1,169 @@
+-- What a refusal means: each call answers by the whole table of its tests. So k is given exactly when a test of number k fails
+-- and every earlier one passes. The order check is in CheckMeans. Assumes nothing.
+use Prim.Native.Nat.{ℕ}
+use mathlib.Core.Path.{_≡_, refl, sym, ap, _∙_}
+use mathlib.Core.Bool.{Bool, true, false, cond}
+use mathlib.Core.List.{List, [], _∷_, _++_}
+use native.Mathlib.Omega.{arith}
+use borrow.Author.Tests.{eqb-true}
+use lib.Dec.{leb, ltb, eqb}
+use lib.IntN.{ℤ}
+use lib.ListN.{length}
+use Rattle.geometry.specs.declared.units.RecordNumber.{RecordNumber}
+use Rattle.geometry.specs.declared.units.EntryNumber.{EntryNumber}
+use Rattle.geometry.specs.declared.units.ExtensionNumber.{ExtensionNumber}
+use Rattle.descriptor.specs.declared.numbers.DescriptorNumbers.{DescriptorNumbers}
+use Rattle.descriptor.specs.declared.numbers.Settings.{Settings}
+use Rattle.descriptor.specs.declared.validating.Validated.the-variants.{Numbers}
+use Rattle.descriptor.specs.declared.validating.Validation.{Validation}
+use Rattle.descriptor.specs.FirstRecord.{numbersOf, addressesOf}
+use Rattle.descriptor.specs.Refusal.{Rule, refusalIn, Numbered}
+use Rattle.descriptor.specs.Rules.{fileRefusal}
+use Rattle.descriptor.specs.Answers.{noValidation, validationOf, extensionIn, extensionOf}
+use Rattle.descriptor.proofs.Refusals.{refusal-is, refusal-given, refusal-none, all-hold, refusal-append}
+use Rattle.descriptor.proofs.Answered.{answer-numbers, answer-refused}
+use Rattle.entry.specs.declared.opening.Entered.{Entered}
+use Rattle.entry.specs.declared.answers.Opened.{Opened}
+use Rattle.entry.specs.declared.answers.PartPlace.{PartPlace}
+use Rattle.entry.specs.Tables.{sectionNamed}
+use Rattle.entry.specs.Opening.{entryRefusal, enteredOf, notEntered}
+use Rattle.entry.specs.Answers.{enteredIn, openedAs, openOf, numberOf, noPart, pieceFrom}
+use Rattle.entry.specs.Answers.{indexPart, sectionPart, dataPart, partIn, indexWordsOf, sectionWordsOf, dataWordsOf}
+use Rattle.entry.proofs.Entering.{entered-refusal}
+use Rattle.writer.specs.declared.inner.AppendedFrom.{AppendedFrom}
+use Rattle.writer.specs.Handed.{Handed}
+use Rattle.writer.specs.Rules.{appendRules, appendRefusal}
+use Rattle.writer.specs.Answers.{acceptedFrom, refusedFrom, appendedFrom, appendIn, appendOf}
+use Rattle.writer.specs.Creation.{creationRefusal}
+use Rattle.writer.proofs.Kept.{either}
+use Rattle.promises.specs.Tables.{extensionRows, entryRows, sectionRows, Exactly}
+use Rattle.promises.specs.Tables.{validateTests, createTests, extensionTests, openTests, sectionTests, appendTests}
+
+-- ---- any table
+
+-- the refusal of a table is given exactly
+pub exactly : (n : ℕ) (rules : List Rule) → Numbered rules → n ≡ refusalIn rules → Exactly n rules
+exactly n rules m e = record {
+  given = λ k h q. refusal-given k rules (sym e ∙ q) h;
+  is = λ k g. e ∙ refusal-is k rules g;
+  none = λ q. all-hold rules m (sym e ∙ q);
+  accepted = λ a. e ∙ refusal-none rules a;
+}
+
+-- two tables joined have no row numbered 0 where neither has one
+pub numbered-joined : (rs ss : List Rule) → Numbered rs → Numbered ss → Numbered (rs ++ ss)
+numbered-joined [] ss m n = n
+numbered-joined (r ∷ rs) ss m n = (m .0, numbered-joined rs ss (m .1) n)
+
+-- a number that is the first table's refusal, else the second's, is that of the two joined
+pub joined : (n : ℕ) (rs ss : List Rule) → Numbered rs → (refusalIn rs ≡ 0 → n ≡ refusalIn ss) → (eqb (refusalIn rs) 0 ≡ false → n ≡ refusalIn rs)
+    → n ≡ refusalIn (rs ++ ss)
+joined n rs ss m f g =
+    let both = refusal-append rs ss m in
+    let by : (b : Bool) → eqb (refusalIn rs) 0 ≡ b → refusalIn (rs ++ ss) ≡ cond b (refusalIn ss) (refusalIn rs) = λ b q. rw q at both in
+    either (eqb (refusalIn rs) 0) (λ q. f (eqb-true (refusalIn rs) 0 q) ∙ sym (by true q)) (λ q. g q ∙ sym (by false q))
+
+-- an answer with the number 0 where n is 0, and with n elsewhere, has the number n
+chosen : {A : Type 0} (number : A → ℕ) (n : ℕ) (x y : A) → number x ≡ 0 → number y ≡ n → number (cond (eqb n 0) x y) ≡ n
+chosen number n x y f g = either (eqb n 0) (λ q. rw q (f ∙ sym (eqb-true n 0 q))) (λ q. rw q g)
+
+-- ---- the calls
+
+-- creation
+pub create-means : (bytes : ℕ) (settings : Settings) → Exactly (creationRefusal bytes settings) (createTests bytes settings)
+unfolding creationRefusal
+create-means bytes settings = exactly (creationRefusal bytes settings) (createTests bytes settings) (omega arith) refl
+
+module _ (file : List ℕ) where
+  abbrev d : DescriptorNumbers
+  d = numbersOf file
+
+  abbrev addresses : List RecordNumber
+  addresses = addressesOf file (d .nex)
+
+  -- every other call goes by the answer of validating: it gives the file's refusal, else that of the rest of its tests
+  after-file : (number : Validation → ℕ) (rest : List Rule) → Numbered rest → ((n : ℕ) → number (noValidation n) ≡ n)
+      → number (record { refusal = 0; numbers = Numbers d; addresses = addresses }) ≡ refusalIn rest
+      → Exactly (number (validationOf file)) (validateTests file ++ rest)
+  unfolding fileRefusal
+  after-file number rest m refused admitted =
+      exactly (number (validationOf file)) (validateTests file ++ rest) (numbered-joined (validateTests file) rest (omega arith) m)
+      (joined (number (validationOf file)) (validateTests file) rest (omega arith)
+      (λ z. ap number (answer-numbers file z) ∙ admitted)
+      (λ q. ap number (answer-refused file (fileRefusal file) refl q) ∙ refused (fileRefusal file)))
+
+  -- validating
+  pub validate-means : Exactly (validationOf file .refusal) (validateTests file)
+  validate-means = after-file (λ v. v .refusal) [] tt (λ n. refl) refl
+
+  -- an extension
+  pub extension-means : (k : ExtensionNumber) → Exactly (extensionOf file k .refusal) (extensionTests file k)
+  unfolding extensionOf extensionIn
+  extension-means k = after-file (λ v. extensionIn (v .numbers) (v .addresses) k .refusal) (extensionRows file k) (omega arith) (λ n. refl) there
+    where
+      there : extensionIn (Numbers d) addresses k .refusal ≡ refusalIn (extensionRows file k)
+      there = either (leb 1 (k .0)) (λ p. either (leb (k .0) (d .nex)) (λ q. rw (p, q)) (λ q. rw (p, q))) (λ p. rw p)
+
+  -- append
+  pub append-means : (h : Handed) → Exactly (appendOf file h .refusal) (appendTests file h)
+  unfolding appendIn appendedFrom appendRefusal
+  append-means h =
+      let n = appendRefusal (length file) d h in
+      after-file (λ v. appendIn file (v .numbers) (v .addresses) h .refusal) (appendRules (length file) d h) (omega arith) (λ n. refl)
+      (chosen (λ (x : AppendedFrom). x .refusal) n (acceptedFrom d addresses h) (refusedFrom n d addresses) refl refl)
+
+  -- ---- the calls on an entry
+
+  -- a part that f makes of the file's addresses and numbers
+  part-means : (f : List RecordNumber → DescriptorNumbers → PartPlace) (rest : List Rule) → Numbered rest → f addresses d .refusal ≡ refusalIn rest
+      → Exactly (partIn (validationOf file .numbers) (f (validationOf file .addresses)) .refusal) (validateTests file ++ rest)
+  unfolding partIn
+  part-means f rest m = after-file (λ v. partIn (v .numbers) (f (v .addresses)) .refusal) rest m (λ n. refl)
+
+  module _ (e : EntryNumber) where
+    abbrev entry : Entered
+    entry = enteredOf file d addresses e
+
+    pub entry-number : entry .refusal ≡ refusalIn (entryRows file e)
+    unfolding entryRefusal
+    entry-number = entered-refusal file d addresses e
+
+    -- opening
+    pub open-means : Exactly (numberOf (openOf file e .answer)) (openTests file e)
+    unfolding openOf openedAs enteredIn
+    open-means =
+        after-file (λ v. numberOf (openedAs file (enteredIn file (v .numbers) (v .addresses) e) .answer)) (entryRows file e) (omega arith)
+        (λ n. number (notEntered n)) (number entry ∙ entry-number)
+      where
+        number : (x : Entered) → numberOf (openedAs file x .answer) ≡ x .refusal
+        number x = chosen (λ (o : Opened). numberOf (o .answer)) (x .refusal) _ _ refl refl
+
+    -- index words
+    pub index-words-means : Exactly (indexWordsOf file e .refusal) (openTests file e)
+    unfolding indexPart
+    index-words-means =
+        part-means (λ addresses d. indexPart file d addresses e) (entryRows file e) (omega arith)
+        (chosen (λ (p : PartPlace). p .refusal) (entry .refusal) _ (noPart (entry .refusal)) refl refl ∙ entry-number)
+
+    -- data
+    pub data-means : Exactly (dataWordsOf file e .refusal) (openTests file e)
+    unfolding dataPart
+    data-means =
+        part-means (λ addresses d. dataPart file d addresses e) (entryRows file e) (omega arith)
+        (chosen (λ (p : PartPlace). p .refusal) (entry .refusal) _ (noPart (entry .refusal)) none refl ∙ entry-number)
+      where
+        none : cond (eqb (entry .array .words) 0) (noPart 0) (pieceFrom (entry .start) (entry .array)) .refusal ≡ 0
+        none = either (eqb (entry .array .words) 0) (λ q. rw q) (λ q. rw q)
+
+    -- a section
+    pub section-means : (identifier : ℤ) → Exactly (sectionWordsOf file e identifier .refusal) (sectionTests file e identifier)
+    unfolding sectionPart
+    section-means identifier =
+        part-means (λ addresses d. sectionPart file d addresses e identifier) (entryRows file e ++ sectionRows file e identifier) (omega arith)
+        (joined (sectionPart file d addresses e identifier .refusal) (entryRows file e) (sectionRows file e identifier) (omega arith) there
+        (λ q. rw (ap (λ (n : ℕ). eqb n 0) entry-number ∙ q) entry-number))
+      where
+        there : refusalIn (entryRows file e) ≡ 0 → sectionPart file d addresses e identifier .refusal ≡ refusalIn (sectionRows file e identifier)
+        there z =
+            rw (entry-number ∙ z)
+            (either (ltb (sectionNamed file (entry .start) identifier 0 (entry .nsec)) (entry .nsec)) (λ q. rw q) (λ q. rw q))
