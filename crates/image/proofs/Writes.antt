@@ -1,10 +1,10 @@
--- Laws of a list of writes: its length, when it is one write, and what it keeps. Assumes nothing.
-use mathlib.Core.Path.{_≡_, refl, sym, ap, _∙_}
+-- Laws of a list of writes: its length, when it is one write, what it keeps, and what is read of it. Assumes nothing.
+use mathlib.Core.Path.{_≡_, refl, sym, ap, subst, _∙_}
 use mathlib.Core.Logic.{_⊎_, inl, inr}
 use Prim.Native.Nat.{ℕ, _+_, _≤_}
 use native.Mathlib.Omega.{arith}
 use mathlib.Core.List.{List, [], _∷_, _++_, append-assoc, append-nil}
-use lib.ListN.{length, length-append}
+use lib.ListN.{length, take, drop, length-append}
 use Rattle.image.specs.Image.{splice, part}
 use Rattle.image.specs.Writes.{Write, put, writes, written, Follows, Apart}
 use Rattle.image.proofs.Splice.{splice-nil, splice-adjacent, length-splice}
@@ -47,3 +47,29 @@ writes-read image us at ys vs h k =
     ap (λ (l : List ℕ). part l at (length ys)) (writes-append image us (put at ys ∷ vs))
     ∙ writes-keep (splice (writes image us) at ys) vs at (length ys) k
     ∙ part-same (writes image us) at (length ys) ys refl (rw length-writes h)
+
+-- ---- writes that follow one another
+
+behind : (a : ℕ) (us : List Write) (at : ℕ) (ys : List ℕ) (vs : List Write) → Follows a (us ++ put at ys ∷ vs) → Follows (at + length ys) vs
+behind a [] at ys vs f = f .1
+behind a (put b xs ∷ us) at ys vs f = behind (b + length xs) us at ys vs (f .1)
+
+apart-behind : (a n b : ℕ) (ws : List Write) → a + n ≤ b → Follows b ws → Apart a n ws
+apart-behind a n b [] h f = tt
+apart-behind a n b (put at ys ∷ ws) h f =
+    let e = f .0 in
+    (inl (omega (arith, e)), apart-behind a n (at + length ys) ws (omega (arith, e)) (f .1))
+
+-- a write stands behind k others
+abbrev pub BehindOf : ℕ → Write → List Write → Type 0
+BehindOf k w ws = take k ws ++ w ∷ drop (k + 1) ws ≡ ws
+
+-- what it wrote is read there
+pub follow-read : (image : List ℕ) (a : ℕ) (ws : List Write) → Follows a ws → (k at : ℕ) (ys : List ℕ) → BehindOf k (put at ys) ws
+    → at + length ys ≤ length image → part (writes image ws) at (length ys) ≡ ys
+follow-read image a ws f k at ys e h =
+    let us = take k ws in
+    let vs = drop (k + 1) ws in
+    let g = subst (Follows a) (sym e) f in
+    subst (λ (l : List Write). part (writes image l) at (length ys) ≡ ys) e
+    (writes-read image us at ys vs h (apart-behind at (length ys) (at + length ys) vs (omega arith) (behind a us at ys vs g)))

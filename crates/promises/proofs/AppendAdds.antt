@@ -1,10 +1,9 @@
 -- An accepted append to a sound file leaves it sound, keeps what every number up to n finds, and adds what was handed in under number n + 1. Assumes nothing.
-use Prim.Native.Nat.{ℕ, suc, _+_, _*_, _-_, _≤_, _<_}
+use Prim.Native.Nat.{ℕ, suc, _+_, _-_, _≤_}
 use mathlib.Core.Path.{_≡_, refl, sym, ap, subst, _∙_}
 use mathlib.Core.List.{List, [], _∷_, _++_, map}
 use native.Mathlib.Omega.{arith}
-use native.Mathlib.Numerals.{add-one}
-use lib.IntN.{ℤ, pos}
+use lib.IntN.{pos}
 use lib.ListN.{length, getD, take}
 use Rattle.geometry.specs.declared.units.RecordNumber.{RecordNumber}
 use Rattle.geometry.specs.declared.units.EntryNumber.{EntryNumber}
@@ -18,11 +17,11 @@ use Rattle.descriptor.specs.Answers.{validationOf}
 use Rattle.descriptor.proofs.Answered.{file-admitted, answer-numbers}
 use Rattle.entry.specs.declared.answers.Opened.{Opened}
 use Rattle.entry.specs.declared.answers.PartPlace.{PartPlace}
-use Rattle.entry.specs.Answers.{openOf, partIn, indexPart, sectionPart, dataPart, indexWordsOf, sectionWordsOf, dataWordsOf, bytesOf}
+use Rattle.entry.specs.Answers.{openOf, partIn, indexPart, sectionPart, dataPart, bytesOf}
 use Rattle.entry.proofs.Handing.{open-numbers}
 use Rattle.entry.proofs.Agreeing.{Agrees, open-there, index-there, section-there, data-part-there}
 use Rattle.writer.specs.Handed.{Handed, Integers, nsecIn}
-use Rattle.writer.specs.Placing.{numbersAfter, addressesAfter}
+use Rattle.writer.specs.Placing.{addressesAfter}
 use Rattle.writer.specs.Rules.{appendRefusal}
 use Rattle.writer.specs.Writing.{appended}
 use Rattle.writer.specs.Answers.{fileAfter}
@@ -30,11 +29,11 @@ use Rattle.writer.specs.Bounds.{Fitting, Accepted}
 use Rattle.writer.proofs.HandedIn.{accepted}
 use Rattle.writer.proofs.Accepting.{after, number-last}
 use Rattle.writer.proofs.ReadBack.{validated-after}
-use Rattle.writer.proofs.Returned.{openedFrom, file-after, opened-again, index-again, section-again, data-again}
-use Rattle.promises.specs.Contents.{Section, Content, Reading, holds, sectionRead, contentRead, readingAs, readingOf, entriesIn, inOrder, contents}
+use Rattle.writer.proofs.Returned.{file-after, opened-again, index-again, section-again, data-again}
+use Rattle.promises.specs.Contents.{Reading, holds, sectionRead, contentRead, readingAs, readingOf, entriesIn, inOrder, contents}
 use Rattle.promises.specs.Calls.{sectionsCut, handedContent}
 use Rattle.promises.specs.Regions.{Sound}
-use Rattle.promises.proofs.Readings.{reading-alike, inOrder-same, places-all, sectionAt, cut-read}
+use Rattle.promises.proofs.Readings.{reading-alike, inOrder-same, places-all, cut-read}
 use Rattle.promises.proofs.Spread.{sound-shown}
 use Rattle.promises.proofs.SoundAfter.{entry-agrees, sound-then}
 

@@ -1,26 +1,22 @@
 -- An accepted append leaves every entry that opens, and that its slot does not meet, as it was: its numbers, its tables, and the bytes of its parts. Assumes nothing.
-use Prim.Native.Nat.{ℕ, _+_, _*_, _-_, _≤_, _<_}
-use mathlib.Core.Path.{_≡_, refl, sym, ap, _∙_}
-use mathlib.Core.Logic.{_⊎_, inl, inr}
-use mathlib.Core.Bool.{true}
+use Prim.Native.Nat.{ℕ, _+_, _*_, _-_, _≤_}
+use mathlib.Core.Path.{_≡_, refl}
+use mathlib.Core.Logic.{inl, inr}
 use mathlib.Core.List.{List}
 use native.Mathlib.Omega.{arith}
-use native.Mathlib.Nat.{mul-le-mul-right}
 use lib.ListN.{length}
 use Rattle.image.specs.Image.{part}
 use Rattle.geometry.specs.declared.units.RecordNumber.{RecordNumber}
 use Rattle.geometry.specs.declared.units.EntryNumber.{EntryNumber}
-use Rattle.geometry.specs.Units.{positionOf, placeOf, entriesBefore}
+use Rattle.geometry.specs.Units.{entriesBefore}
 use Rattle.geometry.specs.Area.{slotOf}
 use Rattle.geometry.proofs.Positions.{position-place}
 use Rattle.geometry.proofs.Slots.{slot-more, slots-apart}
 use Rattle.descriptor.specs.declared.numbers.DescriptorNumbers.{DescriptorNumbers}
-use Rattle.descriptor.specs.FirstRecord.{aexOf, growthIn, freeOf}
+use Rattle.descriptor.specs.FirstRecord.{growthIn, freeOf}
 use Rattle.descriptor.proofs.Fitting.{fit-reach}
-use Rattle.entry.specs.declared.opening.Entered.{Entered}
-use Rattle.entry.specs.Opening.{slotPositionOf, startOf, entryRefusal, enteredOf}
-use Rattle.entry.specs.Opening as opening
-use Rattle.entry.proofs.Entering.{slot-in-use, slot-inside, entry-opens, entered-numbers}
+use Rattle.entry.specs.Opening.{slotPositionOf, entryRefusal, enteredOf}
+use Rattle.entry.proofs.Entering.{slot-in-use, slot-inside, entry-opens}
 use Rattle.entry.proofs.Agreeing.{Agrees}
 use Rattle.order.specs.Order.{areaStartOf}
 use Rattle.writer.specs.Handed.{Handed, nwordIn}

@@ -3,10 +3,9 @@
 -- made-up number of entries. Assumes nothing.
 use Prim.Native.Nat.{ℕ, _+_, _≤_}
 use mathlib.Core.Path.{_≡_, refl, sym, ap, _∙_}
-use mathlib.Core.Bool.{true, false}
-use mathlib.Core.List.{List, [], _∷_, _++_}
+use mathlib.Core.List.{List, _++_}
 use native.Mathlib.Omega.{arith}
-use borrow.Author.Tests.{eqb-true, eqb-false, eq-eqb, le-leb}
+use borrow.Author.Tests.{eqb-true, le-leb}
 use lib.Dec.{eqb}
 use lib.ListN.{length, length-append}
 use Rattle.outcome.specs.Outcome.{Answers}
@@ -14,33 +13,26 @@ use Rattle.image.specs.Image.{splice}
 use Rattle.geometry.specs.declared.units.EntryNumber.{EntryNumber}
 use Rattle.geometry.specs.Units.{entriesBefore}
 use Rattle.descriptor.specs.declared.numbers.Settings.{Settings}
-use Rattle.descriptor.specs.declared.validating.Validated.the-variants.{Numbers}
 use Rattle.descriptor.specs.declared.validating.Validation.{Validation}
-use Rattle.descriptor.specs.Refusal.{Rule, AllHold}
-use Rattle.descriptor.specs.FirstRecord.{numbersOf, addressesOf, createdOf}
-use Rattle.descriptor.specs.Rules.{fileRules, creationRules, fileRefusal}
+use Rattle.descriptor.specs.Refusal.{AllHold}
+use Rattle.descriptor.specs.FirstRecord.{numbersOf, addressesOf}
+use Rattle.descriptor.specs.Rules.{fileRefusal}
 use Rattle.descriptor.specs.Answers.{validationOf}
-use Rattle.descriptor.proofs.Refusals.{refusal-none}
-use Rattle.descriptor.proofs.Answered.{answer-numbers, answer-refused, file-admitted}
-use Rattle.entry.specs.declared.answers.Open.{Open}
-use Rattle.entry.specs.declared.answers.Open.the-variants as opened
+use Rattle.descriptor.proofs.Answered.{answer-numbers, answer-refused}
 use Rattle.entry.specs.declared.answers.Opened.{Opened}
-use Rattle.entry.specs.Opening.{slotPositionOf, placeOf, entryRules, entryRefusal}
-use Rattle.entry.specs.Answers.{openedAs, openOf, numberOf}
-use Rattle.entry.proofs.Entering.{entered-numbers}
-use Rattle.entry.proofs.Handing.{open-numbers}
+use Rattle.entry.specs.Answers.{openOf, numberOf}
 use Rattle.writer.specs.declared.appending.Appended.{Appended}
-use Rattle.writer.specs.Creation.{creationRefusal, createdFile, Creates}
+use Rattle.writer.specs.Creation.{Creates}
 use Rattle.writer.specs.Handed.{Handed, Integers}
-use Rattle.writer.specs.Rules.{appendRules, appendRefusal}
-use Rattle.writer.specs.Answers.{appendedFrom, appendIn, appendOf, fileAfter, Appends}
+use Rattle.writer.specs.Answers.{appendIn, appendOf, Appends}
 use Rattle.writer.proofs.Kept.{either}
 use Rattle.listing.specs.Text.{joined}
-use Rattle.listing.specs.Buffer.{countIn, filledBy}
+use Rattle.listing.specs.Buffer.{filledBy}
 use Rattle.listing.specs.Listing.{header, rowsOf, entriesListing, listingIn, listingOf, Lists}
 use Rattle.listing.proofs.Lines.{rows-count}
 use Rattle.promises.specs.Contents.{holds, readingOf, entriesIn, contents}
 use Rattle.promises.specs.Calls.{Call, AllFit, run, answers, handedContent, accepted}
+use Rattle.promises.specs.Tables.{validateTests, createTests, openTests, appendTests}
 use Rattle.promises.specs.Demand.{Start, entriesOf}
 use Rattle.promises.specs.Examples.{entry, withSection, withoutSection, sectionsIn}
 use Rattle.promises.proofs.Readings.{length-contents}
@@ -48,41 +40,22 @@ use Rattle.promises.proofs.AppendNumbers.{answer-there, number-there}
 use Rattle.promises.proofs.AppendAdds.{reading-new}
 use Rattle.promises.proofs.Demand3.{start-ordered, demand-3}
 use Rattle.promises.proofs.OrderPassed.{check-passed}
+use Rattle.promises.proofs.RefusalMeans.{validate-means, create-means, open-means, append-means}
 use Rattle.promises.proofs.WorkedExamples.{first-entries}
-
--- the rules of a file, and of an entry in it
-abbrev rulesOf : List ℕ → List Rule
-rulesOf file = fileRules file (numbersOf file) (addressesOf file (numbersOf file .nex))
-
-abbrev entryRulesOf : List ℕ → EntryNumber → List Rule
-entryRulesOf file e =
-    let d = numbersOf file in
-    entryRules file d e (placeOf file (slotPositionOf d (addressesOf file (d .nex)) e))
-
-admitted : (file : List ℕ) → AllHold (rulesOf file) → fileRefusal file ≡ 0
-unfolding fileRefusal
-admitted file all = refusal-none (rulesOf file) all
 
 -- ---- a reader that refuses everything
 
 module _ (read : List ℕ → Validation) (meets : (file : List ℕ) → Answers (validationOf file) (read file)) where
-  -- every file whose rules all hold is accepted, with its own numbers
-  pub accepts-good-files : (file : List ℕ) → AllHold (rulesOf file) → (read file .refusal ≡ 0) × (read file .numbers ≡ Numbers (numbersOf file))
-  accepts-good-files file all =
-      let shown = meets file ∙ answer-numbers file (admitted file all) in
-      (ap (λ (v : Validation). v .refusal) shown, ap (λ (v : Validation). v .numbers) shown)
+  -- every file whose tests all hold is accepted
+  pub accepts-good-files : (file : List ℕ) → AllHold (validateTests file) → read file .refusal ≡ 0
+  accepts-good-files file all = ap (λ (v : Validation). v .refusal) (meets file) ∙ validate-means file .accepted all
 
 -- ---- an open that refuses everything, or gives one fixed entry
 
 module _ (enter : List ℕ → EntryNumber → Opened) (meets : (file : List ℕ) (e : EntryNumber) → Answers (openOf file e) (enter file e)) where
-  -- every entry whose rules all hold opens
-  pub opens-good-entries : (file : List ℕ) (e : EntryNumber) → AllHold (rulesOf file) → AllHold (entryRulesOf file e) → numberOf (enter file e .answer) ≡ 0
-  unfolding entryRefusal openedAs
-  opens-good-entries file e all each =
-      let d = numbersOf file in
-      let z = refusal-none (entryRulesOf file e) each in
-      ap (λ (o : Opened). numberOf (o .answer)) (meets file e ∙ open-numbers file e (sym (answer-numbers file (admitted file all))) refl)
-      ∙ rw (entered-numbers file d (addressesOf file (d .nex)) e z)
+  -- every entry whose tests all hold opens
+  pub opens-good-entries : (file : List ℕ) (e : EntryNumber) → AllHold (openTests file e) → numberOf (enter file e .answer) ≡ 0
+  opens-good-entries file e all = ap (λ (o : Opened). numberOf (o .answer)) (meets file e) ∙ open-means file e .accepted all
 
   -- the first entries of two files that open are not one and the same: one has a section, the other has none
   pub opens-differ : enter withSection (entry 1) ≡ enter withoutSection (entry 1) → ⊥
@@ -95,10 +68,9 @@ module _ (enter : List ℕ → EntryNumber → Opened) (meets : (file : List ℕ
 -- ---- a writer that refuses everything
 
 module _ (answer : List ℕ → Settings → ℕ) (after : List ℕ → Settings → List ℕ) (meets : (file : List ℕ) (s : Settings) → Creates file s (answer file s) (after file s)) where
-  -- every creation whose rules all hold is accepted
-  pub creates-good-files : (file : List ℕ) (s : Settings) → AllHold (creationRules (length file) (createdOf s)) → answer file s ≡ 0
-  unfolding creationRefusal
-  creates-good-files file s all = meets file s .0 ∙ refusal-none (creationRules (length file) (createdOf s)) all
+  -- every creation whose tests all hold is accepted
+  pub creates-good-files : (file : List ℕ) (s : Settings) → AllHold (createTests (length file) s) → answer file s ≡ 0
+  creates-good-files file s all = meets file s .0 ∙ create-means (length file) s .accepted all
 
 -- an append that is accepted was one to an admitted file
 accepted-file : (file : List ℕ) (h : Handed) → appendOf file h .refusal ≡ 0 → fileRefusal file ≡ 0
@@ -109,15 +81,9 @@ accepted-file file h z =
     (λ q. rw (answer-refused file (fileRefusal file) refl q) at z)
 
 module _ (answer : List ℕ → Handed → Appended) (after : List ℕ → Handed → List ℕ) (meets : (file : List ℕ) (h : Handed) → Appends file h (answer file h) (after file h)) where
-  -- every append whose rules all hold is accepted, with number n + 1
-  pub appends-good-entries : (file : List ℕ) (h : Handed) → AllHold (rulesOf file) → AllHold (appendRules (length file) (numbersOf file) h)
-      → (answer file h .refusal ≡ 0) × (answer file h .number ≡ numbersOf file .xnext)
-  unfolding appendRefusal
-  appends-good-entries file h all each =
-      let z = admitted file all in
-      let a = refusal-none (appendRules (length file) (numbersOf file) h) each in
-      let given = meets file h .0 in
-      (ap (λ (x : Appended). x .refusal) given ∙ answer-there file h z ∙ a, ap (λ (x : Appended). x .number) given ∙ number-there file h z a)
+  -- every append whose tests all hold is accepted
+  pub appends-good-entries : (file : List ℕ) (h : Handed) → AllHold (appendTests file h) → answer file h .refusal ≡ 0
+  appends-good-entries file h all = ap (λ (x : Appended). x .refusal) (meets file h .0) ∙ append-means file h .accepted all
 
   -- ---- an append that answers a number and writes nothing, or that stores only the first entry and afterwards only raises xnext
 

@@ -1,7 +1,6 @@
 -- A file that passes the order check passes it again after any series of calls. Assumes nothing.
 use Prim.Native.Nat.{ℕ, _+_, _-_, _≤_, _<_}
-use mathlib.Core.Path.{_≡_, refl, sym, ap, subst, _∙_}
-use mathlib.Core.Bool.{true, false}
+use mathlib.Core.Path.{_≡_, refl, sym, ap, _∙_}
 use mathlib.Core.List.{List, [], _∷_}
 use native.Mathlib.Omega.{arith}
 use native.Mathlib.Nat.{lt-of-not-le}
@@ -15,18 +14,17 @@ use Rattle.geometry.specs.declared.units.RecordNumber.{RecordNumber}
 use Rattle.geometry.specs.declared.growth.Growth.{Growth}
 use Rattle.geometry.specs.declared.area.Slot.{Slot}
 use Rattle.geometry.specs.Units.{entriesBefore}
-use Rattle.geometry.specs.Growth.{capacityOf, totalOf}
+use Rattle.geometry.specs.Growth.{capacityOf}
 use Rattle.geometry.proofs.Slots.{Stands, holder-only, slot-more}
 use Rattle.descriptor.specs.declared.numbers.DescriptorNumbers.{DescriptorNumbers}
-use Rattle.descriptor.specs.FirstRecord.{numbersOf, addressesOf, growthIn, freeOf}
+use Rattle.descriptor.specs.FirstRecord.{numbersOf, addressesOf, growthIn}
 use Rattle.descriptor.proofs.Fitting.{fit-reach, fit-full}
 use Rattle.descriptor.proofs.Answered.{file-admitted}
 use Rattle.entry.specs.declared.opening.Entered.{Entered}
 use Rattle.entry.proofs.Entering.{slot-in-use}
 use Rattle.order.specs.Order.{areaStartOf, areaEndOf, endOf, allPass, checkOf}
 use Rattle.writer.specs.Handed.{Handed, Integers}
-use Rattle.writer.specs.Placing.{full, entryStart, nexAfter, numbersAfter, addressesAfter}
-use Rattle.writer.specs.Rules.{appendRefusal}
+use Rattle.writer.specs.Placing.{full, nexAfter, numbersAfter, addressesAfter}
 use Rattle.writer.specs.Writing.{appended}
 use Rattle.writer.specs.Answers.{appendOf, fileAfter}
 use Rattle.writer.specs.Bounds.{Accepted}
@@ -39,7 +37,7 @@ use Rattle.writer.proofs.Returned.{file-after}
 use Rattle.promises.specs.Calls.{Call, append, AllFit, run}
 use Rattle.promises.specs.Regions.{SoundIn}
 use Rattle.promises.proofs.Spread.{entryAt}
-use Rattle.promises.proofs.SoundAfter.{by-last, by-area, entries-then, nex-then, area-from, area-to, area-new, entry-same, start-last, old-end, areas-before, opens-then}
+use Rattle.promises.proofs.SoundAfter.{by-last, by-area, entries-then, area-from, area-to, area-new, entry-same, start-last, old-end, areas-before, opens-then}
 use Rattle.promises.proofs.OrderPassed.{slotAt, Passed, check-passes, check-passed}
 use Rattle.promises.proofs.OrderSound.{order-sound}
 use Rattle.promises.proofs.AppendNumbers.{answer-there}

@@ -1,7 +1,7 @@
 -- What a passed order check says of each entry: it opens, and stands behind its extension's area or the entry before it, and before the next area. Assumes nothing.
 use Prim.Native.Nat.{ℕ, zero, suc, _+_, _-_, _≤_, _<_}
 use mathlib.Core.Path.{_≡_, refl, sym, ap, _∙_}
-use mathlib.Core.Bool.{Bool, true, false, cond}
+use mathlib.Core.Bool.{true, cond}
 use mathlib.Core.List.{List}
 use native.Mathlib.Omega.{arith}
 use native.Mathlib.Nat.{lt-of-not-le}
@@ -21,8 +21,7 @@ use Rattle.descriptor.specs.Rules.{fileRefusal}
 use Rattle.descriptor.specs.Answers.{validationOf}
 use Rattle.descriptor.proofs.Refusals.{all-hold}
 use Rattle.descriptor.proofs.Answered.{answer-numbers, answer-refused}
-use Rattle.entry.specs.declared.opening.Entered.{Entered}
-use Rattle.entry.specs.Opening.{entryRefusal, enteredOf}
+use Rattle.entry.specs.Opening.{entryRefusal}
 use Rattle.entry.proofs.Entering.{entered-refusal}
 use Rattle.order.specs.declared.checking.Checked.{Checked}
 use Rattle.order.specs.Order.{areaStartOf, areaEndOf, endOf, startsInOrder, endsInOrder, orderRules, orderRefusal, allPass, checkedFrom, checkedIn, checkOf}

@@ -1,7 +1,7 @@
 -- A file that passes the order check is sound: no entry meets an index area or another entry. Assumes nothing.
-use Prim.Native.Nat.{ℕ, zero, suc, _+_, _*_, _-_, _≤_, _<_}
-use mathlib.Core.Path.{_≡_, refl, sym, ap, _∙_}
-use mathlib.Core.Logic.{_⊎_, inl, inr}
+use Prim.Native.Nat.{ℕ, zero, suc, _+_, _-_, _≤_, _<_}
+use mathlib.Core.Path.{_≡_, ap}
+use mathlib.Core.Logic.{inl, inr}
 use mathlib.Core.List.{List}
 use native.Mathlib.Omega.{arith}
 use native.Mathlib.Nat.{lt-of-not-le}
@@ -11,7 +11,7 @@ use Rattle.geometry.specs.declared.units.RecordNumber.{RecordNumber}
 use Rattle.geometry.specs.Units.{entriesBefore}
 use Rattle.geometry.specs.Growth.{capacityOf, totalOf}
 use Rattle.geometry.proofs.Capacities.{total-le, total-last}
-use Rattle.geometry.proofs.Slots.{Holds, holder-only, Stands}
+use Rattle.geometry.proofs.Slots.{holder-only, Stands}
 use Rattle.descriptor.specs.declared.numbers.DescriptorNumbers.{DescriptorNumbers}
 use Rattle.descriptor.specs.FirstRecord.{numbersOf, addressesOf, growthIn}
 use Rattle.descriptor.specs.Bounds.{Admitted}

@@ -15,7 +15,7 @@ use Rattle.entry.specs.declared.answers.Open.the-variants.{Numbers, Refused}
 use Rattle.entry.specs.declared.answers.Opened.{Opened}
 use Rattle.entry.specs.Answers.{openOf, bytesOf, indexWordsOf, sectionWordsOf, dataWordsOf}
 use Rattle.writer.specs.Handed.{wordsOf, sumOf}
-use Rattle.promises.specs.Contents.{Section, Content, Reading, holds, sectionRead, contentRead, readingAs, readingOf, entriesIn, inOrder, contents}
+use Rattle.promises.specs.Contents.{Section, holds, sectionRead, contentRead, readingAs, readingOf, entriesIn, inOrder, contents}
 use Rattle.promises.specs.Calls.{sectionsCut}
 
 -- what is found under a number in two files that answer alike

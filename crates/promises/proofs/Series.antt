@@ -1,25 +1,20 @@
 -- Demand 3. From a sound file, after any series of calls, accepted or refused: going through the numbers gives the starting entries and then every accepted one,
 -- once, in order, unchanged; the k-th accepted call answers n + k; and the file is sound again, so no two of its regions share a word. Assumes nothing.
-use Prim.Native.Nat.{ℕ, zero, suc, _+_}
+use Prim.Native.Nat.{ℕ, _+_}
 use mathlib.Core.Path.{_≡_, refl, sym, ap, ap₂, subst, _∙_}
 use mathlib.Core.Bool.{Bool, true, false, cond}
 use mathlib.Core.List.{List, [], _∷_, _++_, append-assoc, append-nil}
 use native.Mathlib.Omega.{arith}
-use borrow.Author.Tests.{eqb-true, eqb-false, eq-eqb}
+use borrow.Author.Tests.{eqb-true, eqb-false}
 use lib.Dec.{eqb}
 use lib.ListN.{length, length-append}
 use Rattle.geometry.specs.declared.units.EntryNumber.{EntryNumber}
-use Rattle.geometry.specs.Units.{entriesBefore}
 use Rattle.descriptor.specs.declared.validating.Validation.{Validation}
-use Rattle.descriptor.specs.FirstRecord.{numbersOf}
-use Rattle.descriptor.specs.Answers.{validationOf}
 use Rattle.descriptor.proofs.Answered.{answer-numbers, file-admitted}
-use Rattle.writer.specs.declared.appending.Appended.{Appended}
 use Rattle.writer.specs.Handed.{Handed, Integers}
-use Rattle.writer.specs.Rules.{appendRefusal}
 use Rattle.writer.specs.Answers.{appendOf, fileAfter}
 use Rattle.writer.proofs.Kept.{either}
-use Rattle.promises.specs.Contents.{Reading, holds, entriesIn, inOrder, contents}
+use Rattle.promises.specs.Contents.{Reading, holds, entriesIn, contents}
 use Rattle.promises.specs.Calls.{Call, append, Fits, AllFit, answerOf, afterCall, run, answers, handedContent, added, accepted, numbersGiven, following}
 use Rattle.promises.specs.Regions.{Sound}
 use Rattle.promises.specs.Demand.{entriesOf}

@@ -1,5 +1,5 @@
 -- That no two regions of admitted numbers share a word comes to two facts of the entries: each stands beside every index area, and beside every other. Assumes nothing.
-use Prim.Native.Nat.{ℕ, _+_, _-_, _≤_, _<_}
+use Prim.Native.Nat.{ℕ, _-_, _≤_, _<_}
 use mathlib.Core.Path.{_≡_, refl, sym, ap, subst₂, _∙_}
 use mathlib.Core.Logic.{_⊎_, inl, inr}
 use mathlib.Core.List.{List}
@@ -21,7 +21,7 @@ use Rattle.entry.specs.declared.opening.Entered.{Entered}
 use Rattle.entry.specs.Opening.{slotPositionOf, placeOf, entryRefusal, enteredOf}
 use Rattle.entry.proofs.Entering.{entry-opens, entered-numbers}
 use Rattle.order.specs.Order.{areaStartOf, areaEndOf, endOf}
-use Rattle.promises.specs.Regions.{Region, firstRecord, area, entry, InUse, fromOf, toOf, NoneShared, SoundIn, Sound}
+use Rattle.promises.specs.Regions.{firstRecord, area, entry, fromOf, toOf, NoneShared, SoundIn, Sound}
 use Rattle.promises.proofs.Areas.{area-behind, areas-order}
 
 -- the words a to b and c to d: one run ends before the other starts

@@ -1,6 +1,6 @@
 -- Reading words of an image: a word in bytes and in halves, after a write of it, and apart from a write. Assumes nothing.
 use Prim.Native.Nat.{ℕ, suc, _+_, _*_, _^_, _≤_, _<_}
-use mathlib.Core.Path.{_≡_, ap, _∙_, subst}
+use mathlib.Core.Path.{_≡_, refl, ap, _∙_, subst}
 use mathlib.Core.List.{List, [], _∷_}
 use native.Mathlib.Omega.{arith}
 use native.Mathlib.Numerals.{add-one}
@@ -11,9 +11,9 @@ use mir.Syntax.{Width}
 use mir.Val.{bits, bytes, SFits}
 use mir.Facts.{fits-ofZ}
 use Rattle.image.specs.Image.{part, splice}
-use Rattle.image.specs.Writes.{Write, writes, Apart}
+use Rattle.image.specs.Writes.{Write, put, writes, Follows, Apart}
 use Rattle.image.proofs.Part.{part-add, part-before, part-behind, part-same, length-part}
-use Rattle.image.proofs.Writes.{writes-keep}
+use Rattle.image.proofs.Writes.{writes-keep, BehindOf, follow-read}
 use Rattle.words.specs.Word.{number, numeral, integer4, integer8, bitsAt, signedAt, bitsOf, signedNumeral}
 use Rattle.words.proofs.Number.{length-numeral, number-numeral, number-append}
 use Rattle.words.proofs.Signed.{signed-bits, range-bytes}
@@ -42,13 +42,22 @@ bits-halves image at h =
     ap number (part-add image at 4 4) ∙ number-append (part image at 4) (part image (at + 4) 4)
     ∙ ap (λ (k : ℕ). number (part image at 4) + 256 ^ k * number (part image (at + 4) 4)) (length-part image at 4 (omega arith))
 
+-- bytes of a number are read as the number, and those of a value as the value
+pub bits-of : (w : Width) (image : List ℕ) (at u : ℕ) → u < 2 ^ bits w → part image at (length (numeral (bytes w) u)) ≡ numeral (bytes w) u → bitsAt w image at ≡ u
+unfolding bitsAt
+bits-of w image at u f e =
+    ap number (subst (λ (n : ℕ). part image at n ≡ numeral (bytes w) u) (length-numeral (bytes w) u) e)
+    ∙ number-numeral (bytes w) u (subst (λ (k : ℕ). u < k) (range-bytes w) f)
+
+pub value-of : (w : Width) (image : List ℕ) (at : ℕ) (z : ℤ) → SFits w z → part image at (length (signedNumeral w z)) ≡ signedNumeral w z → signedAt w image at ≡ z
+value-of w image at z f e = rw (bits-of w image at (bitsOf w z) (fits-ofZ f .fits) e) (signed-bits w z f)
+
 -- a word that was written is read there: its bits, and its value
 pub bits-written : (w : Width) (image : List ℕ) (at u : ℕ) → u < 2 ^ bits w → at + bytes w ≤ length image
     → bitsAt w (splice image at (numeral (bytes w) u)) at ≡ u
-unfolding bitsAt
 bits-written w image at u f h =
-    ap number (part-same image at (bytes w) (numeral (bytes w) u) (omega (arith, length-numeral (bytes w) u)) h)
-    ∙ number-numeral (bytes w) u (subst (λ (k : ℕ). u < k) (range-bytes w) f)
+    let n = length-numeral (bytes w) u in
+    bits-of w (splice image at (numeral (bytes w) u)) at u f (part-same image at (length (numeral (bytes w) u)) (numeral (bytes w) u) refl (omega (arith, n)))
 
 pub signed-written : (w : Width) (image : List ℕ) (at : ℕ) (z : ℤ) → SFits w z → at + bytes w ≤ length image
     → signedAt w (splice image at (signedNumeral w z)) at ≡ z
@@ -66,3 +75,9 @@ bits-behind w image at b ys h = ap number (part-behind image at (bytes w) b ys h
 pub bits-keep : (w : Width) (image : List ℕ) (ws : List Write) (at : ℕ) → Apart at (bytes w) ws → bitsAt w (writes image ws) at ≡ bitsAt w image at
 unfolding bitsAt
 bits-keep w image ws at h = ap number (writes-keep image ws at (bytes w) h)
+
+-- one of writes that follow one another is read there
+pub bits-follow : (w : Width) (image : List ℕ) (a : ℕ) (ws : List Write) → Follows a ws → (k at u : ℕ) → BehindOf k (put at (numeral (bytes w) u)) ws → u < 2 ^ bits w
+    → at + bytes w ≤ length image → bitsAt w (writes image ws) at ≡ u
+bits-follow w image a ws f k at u e h l =
+    bits-of w (writes image ws) at u h (follow-read image a ws f k at (numeral (bytes w) u) e (omega (arith, length-numeral (bytes w) u)))

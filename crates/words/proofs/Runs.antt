@@ -3,6 +3,7 @@ use mathlib.Core.Path.{_≡_, refl, sym, ap, _∙_}
 use mathlib.Core.Bool.{Bool, true, false, _&&_, and-eq-true-iff}
 use Prim.Native.Nat.{ℕ, zero, suc, _+_, _-_, _≤_, _<_}
 use native.Mathlib.Omega.{arith}
+use native.Mathlib.Numerals.{add-one}
 
 -- a run passes over one more where it passed so far and the test of that one passes
 pub record Run (run test : ℕ → Bool) : Type 0 where
@@ -26,6 +27,11 @@ module _ {run test : ℕ → Bool} (r : Run run test) where
   -- and each of its tests did
   pub run-test : (k n : ℕ) → k < n → run n ≡ true → test k ≡ true
   run-test k n h e = and-eq-true-iff (run k) (test k) .0 (sym (r .next k) ∙ run-fewer (k + 1) n (omega arith) e) .1
+
+  -- with all tests passed, so did the run
+  pub run-all : run 0 ≡ true → (n : ℕ) → ((k : ℕ) → k < n → test k ≡ true) → run n ≡ true
+  run-all z zero h = z
+  run-all z (suc n) h = ap run (sym (add-one n)) ∙ run-next n (run-all z n (λ k l. h k (omega arith))) ∙ h n (omega arith)
 
   -- with one test failed, the run fails
   pub run-failed : (k n : ℕ) → k < n → test k ≡ false → run n ≡ false

@@ -1,19 +1,20 @@
 -- Validating a file that `create` made gives the numbers of a new file, and no addresses. Assumes nothing.
 use Prim.Native.Nat.{ℕ, _+_, _^_, _≤_, _<_}
-use mathlib.Core.Path.{_≡_, refl, sym, ap, subst, _∙_}
+use mathlib.Core.Path.{_≡_, refl, sym, ap, _∙_}
 use mathlib.Core.Bool.{true}
-use mathlib.Core.List.{List, _∷_, _++_}
+use mathlib.Core.List.{List, _++_}
 use native.Mathlib.Omega.{arith}
 use borrow.Author.Tests.{leb-true, le-leb}
-use lib.ListN.{length, take, drop, replicate}
+use lib.ListN.{length, replicate}
 use mir.Syntax.{Width, w32, w64}
 use mir.Val.{bits, bytes}
 use Rattle.image.specs.Image.{part}
 use Rattle.image.specs.Writes.{Write, put, writes, Follows}
-use Rattle.image.proofs.Writes.{length-writes, writes-append}
+use Rattle.image.proofs.Writes.{length-writes, writes-append, BehindOf, follow-read}
 use Rattle.words.specs.Word.{numeral, bitsAt}
 use Rattle.words.specs.Code.{sameBytes}
 use Rattle.words.proofs.Number.{length-numeral}
+use Rattle.words.proofs.Access.{bits-follow}
 use Rattle.words.proofs.Codes.{same-self}
 use Rattle.geometry.specs.declared.units.RecordNumber.{RecordNumber}
 use Rattle.geometry.specs.Units.{positionOf}
@@ -30,7 +31,6 @@ use Rattle.writer.specs.Creation.{fieldOffset, settingWrites, countWrite
 use Rattle.writer.specs.Bounds.{Storable}
 use Rattle.writer.proofs.Created.{created-fits}
 use Rattle.writer.proofs.ReadBack.{apt, validated}
-use Rattle.writer.proofs.Stored.{follow-read, bits-of}
 
 -- the addresses of a new file: none
 abbrev pub noAddresses : List RecordNumber
@@ -112,28 +112,18 @@ module _ (file : List ℕ) (d : DescriptorNumbers) where
   length-first : length (firstWritten file d) ≡ length file
   length-first = ap length first-one ∙ length-writes file (firstWrites d)
 
-  -- a write that stands behind k others
-  abbrev Behind : ℕ → Write → Type 0
-  Behind k w = take k (firstWrites d) ++ w ∷ drop (k + 1) (firstWrites d) ≡ firstWrites d
-
-  -- what it wrote is read there
-  first-read : (k at : ℕ) (ys : List ℕ) → Behind k (put at ys) → at + length ys ≤ length file → part (firstWritten file d) at (length ys) ≡ ys
-  first-read k at ys e l =
-      ap (λ (f : List ℕ). part f at (length ys)) first-one
-      ∙ subst (λ (ws : List Write). part (writes file ws) at (length ys) ≡ ys) e
-      (follow-read file 0 (take k (firstWrites d)) at ys (drop (k + 1) (firstWrites d)) (subst (Follows 0) (sym e) (first-follows d)) l)
-
   module _ (long : 64 ≤ length file) where
     -- the code
     code-first : codeOf (firstWritten file d) ≡ fileCode
     unfolding codeOf
-    code-first = first-read 0 0 fileCode refl (omega arith)
+    code-first =
+        ap (λ (f : List ℕ). part f 0 4) first-one ∙ follow-read file 0 (firstWrites d) (first-follows d) 0 0 fileCode refl (omega arith)
 
     -- a field of one word or two
-    field-first : (w : Width) (k at u : ℕ) → Behind k (put at (numeral (bytes w) u)) → u < 2 ^ bits w → at + bytes w ≤ 64
+    field-first : (w : Width) (k at u : ℕ) → BehindOf k (put at (numeral (bytes w) u)) (firstWrites d) → u < 2 ^ bits w → at + bytes w ≤ 64
         → bitsAt w (firstWritten file d) at ≡ u
     field-first w k at u e f l =
-        bits-of w (firstWritten file d) at u f (first-read k at (numeral (bytes w) u) e (omega (arith, length-numeral (bytes w) u)))
+        ap (λ (g : List ℕ). bitsAt w g at) first-one ∙ bits-follow w file 0 (firstWrites d) (first-follows d) k at u e f (omega arith)
 
     -- all of them
     numbers-first : Storable d → d .xnext .0 < 2 ^ 64 → d .nextrec .0 < 2 ^ 64 → numbersOf (firstWritten file d) ≡ d

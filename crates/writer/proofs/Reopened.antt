@@ -3,7 +3,7 @@ use Prim.Native.Nat.{ℕ, zero, suc, _+_, _*_, _-_, _^_, _≤_, _<_}
 use mathlib.Core.Path.{_≡_, refl, sym, ap, ap₂, subst, _∙_}
 use mathlib.Core.Logic.{inr}
 use mathlib.Core.Bool.{Bool, true, false, false≢true, cond}
-use mathlib.Core.List.{List, []}
+use mathlib.Core.List.{List}
 use native.Mathlib.Omega.{arith}
 use native.Mathlib.Nat.{le-div-iff-mul-le, div-le-self, lt-of-not-le}
 use native.Mathlib.Decide.{decLe}
@@ -11,15 +11,17 @@ use native.Mathlib.Numerals.{add-one}
 use borrow.Author.Tests.{leb-true, eqb-false, le-leb, eq-eqb, ne-eqb}
 use lib.Dec.{eqb}
 use lib.IntN.{ℤ, pos, negsuc}
-use lib.ListN.{length, getD, take, drop}
+use lib.ListN.{length, getD, take}
 use mir.Val.{SFits}
 use Rattle.image.specs.Image.{part}
 use Rattle.image.specs.Writes.{writes, Follows}
 use Rattle.words.specs.Word.{number, numeral, integer4, integer8, bitsAt, signedOf}
 use Rattle.words.specs.Range.{atLeast}
+use Rattle.image.proofs.Writes.{follow-read}
 use Rattle.words.proofs.Number.{length-numeral}
 use Rattle.words.proofs.Codes.{same-self}
-use Rattle.words.proofs.Runs.{Run, run-next, run-test}
+use Rattle.words.proofs.Access.{bits-of}
+use Rattle.words.proofs.Runs.{run-test, run-all}
 use Rattle.geometry.specs.declared.units.RecordNumber.{RecordNumber}
 use Rattle.geometry.specs.declared.units.Place.{Place}
 use Rattle.geometry.specs.Units.{placeOf, entriesBefore}
@@ -45,7 +47,7 @@ use Rattle.writer.proofs.Kept.{either, kept, free-after}
 use Rattle.writer.proofs.Accepting.{value-bytes, xnext-small, entry-within, entry-small, after, number-last, slotThen, slot-within}
 use Rattle.writer.proofs.Frame.{counts-keep, slot-keep}
 use Rattle.writer.proofs.ReadBack.{within-row, atLeast-row, first-free, length-area, length-entry, slot-behind}
-use Rattle.writer.proofs.Stored.{follow-read, bits-of, entryWrites, entry-one, code-stored, version-stored, nsec-stored, nword-stored, adata-stored, ldata-stored, xnum-stored, identifier-stored, length-bits, address-stored, section-bytes, data-bytes}
+use Rattle.writer.proofs.Stored.{entryWrites, entry-one, code-stored, version-stored, nsec-stored, nword-stored, adata-stored, ldata-stored, xnum-stored, identifier-stored, length-bits, address-stored, section-bytes, data-bytes}
 
 -- ---- lengths that are 1 or more
 
@@ -53,11 +55,6 @@ some-words : (z : ℤ) → atLeast 1 z ≡ true → 1 ≤ wordsOf z
 unfolding atLeast
 some-words (pos n) e = leb-true 1 n e
 some-words (negsuc n) e = absurd (false≢true e)
-
--- a run whose tests all pass
-run-all : {run test : ℕ → Bool} → Run run test → run 0 ≡ true → (n : ℕ) → ((k : ℕ) → k < n → test k ≡ true) → run n ≡ true
-run-all r z zero h = z
-run-all {run} r z (suc n) h = ap run (sym (add-one n)) ∙ run-next r n (run-all r z n (λ k l. h k (omega arith))) ∙ h n (omega arith)
 
 -- the lengths before a section end before those before a later one
 sum-rise : (zs : List ℤ) (j k : ℕ) → j < k → k ≤ length zs → sumOf (take j zs) + wordsOf (getD zs j (pos 0)) ≤ sumOf (take k zs)
@@ -313,7 +310,7 @@ module _ (file : List ℕ) (d : DescriptorNumbers) (addresses : List RecordNumbe
   index-new =
       let s = x .admitted .settled in
       slot-same (4 * (slot + 3)) (length (h .index)) (omega arith)
-      ∙ follow-read (entryWritten areas d h) (4 * slot) (take 2 (slotWrites slot place (h .index))) (4 * (slot + 3)) (h .index) [] slot-follows
+      ∙ follow-read (entryWritten areas d h) (4 * slot) (slotWrites slot place (h .index)) slot-follows 2 (4 * (slot + 3)) (h .index) refl
       (omega (arith, slot-room, x .fitting .index, s .lind-low))
 
   place-small : (place .«record» .0 ≤ 2 ^ 28 + 1) × (2 ≤ place .«record» .0) × (place .word .0 ≤ d .reclen) × (1 ≤ place .word .0)
@@ -327,7 +324,7 @@ module _ (file : List ℕ) (d : DescriptorNumbers) (addresses : List RecordNumbe
       let u = place .«record» .0 in
       bits-of integer8 new (4 * slot) u (omega (arith, place-small .0))
       (slot-same (4 * slot) (length (numeral 8 u)) (omega arith)
-      ∙ follow-read (entryWritten areas d h) (4 * slot) [] (4 * slot) (numeral 8 u) (drop 1 (slotWrites slot place (h .index))) slot-follows
+      ∙ follow-read (entryWritten areas d h) (4 * slot) (slotWrites slot place (h .index)) slot-follows 0 (4 * slot) (numeral 8 u) refl
       (omega (arith, slot-room, x .admitted .settled .lind-low, length-numeral 8 u)))
 
   word-new : bitsAt integer4 new (4 * (slot + 2)) ≡ place .word .0
@@ -335,7 +332,7 @@ module _ (file : List ℕ) (d : DescriptorNumbers) (addresses : List RecordNumbe
       let u = place .word .0 in
       bits-of integer4 new (4 * (slot + 2)) u (omega (arith, place-small .2, x .admitted .settled .reclen-high))
       (slot-same (4 * (slot + 2)) (length (numeral 4 u)) (omega arith)
-      ∙ follow-read (entryWritten areas d h) (4 * slot) (take 1 (slotWrites slot place (h .index))) (4 * (slot + 2)) (numeral 4 u) (drop 2 (slotWrites slot place (h .index))) slot-follows
+      ∙ follow-read (entryWritten areas d h) (4 * slot) (slotWrites slot place (h .index)) slot-follows 1 (4 * (slot + 2)) (numeral 4 u) refl
       (omega (arith, slot-room, x .admitted .settled .lind-low, length-numeral 4 u)))
 
   place-new : opening.placeOf new slot ≡ place

@@ -1,58 +1,26 @@
 -- The words of an entry that an append has stored, as they are read again. Assumes nothing.
 use Prim.Native.Nat.{ℕ, zero, suc, _+_, _*_, _^_, _≤_, _<_}
 use mathlib.Core.Path.{_≡_, refl, sym, ap, subst, _∙_}
-use mathlib.Core.Logic.{inl}
 use mathlib.Core.List.{List, [], _∷_, _++_}
 use native.Mathlib.Omega.{arith}
 use native.Mathlib.Nat.{mul-suc}
 use lib.IntN.{ℤ, pos}
-use lib.ListN.{length, getD, take, drop}
+use lib.ListN.{length, getD, take}
 use mir.Syntax.{Width}
 use mir.Val.{bits, bytes, SFits}
-use mir.Facts.{fits-ofZ}
 use Rattle.image.specs.Image.{part}
-use Rattle.image.specs.Writes.{Write, put, writes, Follows, Apart}
+use Rattle.image.specs.Writes.{Write, put, writes, Follows}
 use Rattle.image.proofs.Part.{part-left, part-right, part-all, part-part}
-use Rattle.image.proofs.Writes.{writes-append, writes-read}
-use Rattle.words.specs.Word.{number, numeral, integer4, integer8, bitsAt, signedAt, bitsOf, signedNumeral}
-use Rattle.words.proofs.Number.{length-numeral, number-numeral}
-use Rattle.words.proofs.Signed.{signed-bits, range-bytes}
+use Rattle.image.proofs.Writes.{writes-append, BehindOf, follow-read}
+use Rattle.words.specs.Word.{number, numeral, integer4, integer8, bitsAt, bitsOf, signedNumeral}
+use Rattle.words.proofs.Number.{length-numeral}
+use Rattle.words.proofs.Access.{bits-of, value-of, bits-follow}
 use Rattle.geometry.specs.declared.units.EntryNumber.{EntryNumber}
 use Rattle.entry.specs.EntryDescriptor.{wordOffset, word4, word8, codeOf, entryCode, versionOf, nsecOf, nwordOf, adataOf, ldataOf, xnumOf, identifierAt, lengthAt, addressAt}
 use Rattle.entry.specs.Contents.{firstContent}
 use Rattle.writer.specs.Handed.{Handed, wordsOf, sumOf, nsecIn, ldataIn, nwordIn}
 use Rattle.writer.specs.Writing.{identifierBytes, lengthBytes, addressBytes, headFrom, headOf, headWrites, tableWrites, contentWrites}
 use Rattle.writer.proofs.TableBytes.{Table, identifier-table, length-table, address-table, length-identifierBytes, length-lengthBytes, length-addressBytes}
-
--- ---- writes that follow one another
-
-behind : (a : ℕ) (us : List Write) (at : ℕ) (ys : List ℕ) (vs : List Write) → Follows a (us ++ put at ys ∷ vs) → Follows (at + length ys) vs
-behind a [] at ys vs f = f .1
-behind a (put b xs ∷ us) at ys vs f = behind (b + length xs) us at ys vs (f .1)
-
-apart-behind : (a n b : ℕ) (ws : List Write) → a + n ≤ b → Follows b ws → Apart a n ws
-apart-behind a n b [] h f = tt
-apart-behind a n b (put at ys ∷ ws) h f =
-    let e = f .0 in
-    (inl (omega (arith, e)), apart-behind a n (at + length ys) ws (omega (arith, e)) (f .1))
-
--- each of them is read where it was made
-pub follow-read : (image : List ℕ) (a : ℕ) (us : List Write) (at : ℕ) (ys : List ℕ) (vs : List Write) → Follows a (us ++ put at ys ∷ vs)
-    → at + length ys ≤ length image → part (writes image (us ++ put at ys ∷ vs)) at (length ys) ≡ ys
-follow-read image a us at ys vs f h =
-    writes-read image us at ys vs h (apart-behind at (length ys) (at + length ys) vs (omega arith) (behind a us at ys vs f))
-
--- ---- words and tables in bytes
-
--- bytes of a number are read as the number
-pub bits-of : (w : Width) (image : List ℕ) (at u : ℕ) → u < 2 ^ bits w → part image at (length (numeral (bytes w) u)) ≡ numeral (bytes w) u → bitsAt w image at ≡ u
-unfolding bitsAt
-bits-of w image at u f e =
-    ap number (subst (λ (n : ℕ). part image at n ≡ numeral (bytes w) u) (length-numeral (bytes w) u) e)
-    ∙ number-numeral (bytes w) u (subst (λ (k : ℕ). u < k) (range-bytes w) f)
-
-pub value-of : (w : Width) (image : List ℕ) (at : ℕ) (z : ℤ) → SFits w z → part image at (length (signedNumeral w z)) ≡ signedNumeral w z → signedAt w image at ≡ z
-value-of w image at z f e = rw (bits-of w image at (bitsOf w z) (fits-ofZ f .fits) e) (signed-bits w z f)
 
 -- element k of a table stands behind the k before it
 module _ {width : ℕ} {item : ℕ → ℤ → List ℕ} {bytes : ℕ → List ℤ → List ℕ} (t : Table width item bytes) where
@@ -79,43 +47,20 @@ module _ (start : ℕ) (h : Handed) (number : EntryNumber) where
 
   -- they follow one another
   pub entry-follows : length (h .lengths) ≡ length (h .ids) → length (h .sections) ≡ 4 * sumOf (h .lengths) → Follows (4 * start) entryWrites
-  entry-follows pairs sections = (
-    omega arith,
-    (
-      omega arith,
-      (
-        omega (arith, length-numeral 4 (bitsOf integer4 (headOf h number .version))),
-        (
-          omega (arith, length-numeral 4 (headOf h number .nsec)),
-          (
-            omega (arith, length-numeral 8 (headOf h number .nword)),
-            (
-              omega (arith, length-numeral 8 (headOf h number .adata)),
-              (
-                omega (arith, length-numeral 8 (headOf h number .ldata)),
-                (
-                  omega (arith, length-numeral 8 (headOf h number .xnum .0)),
-                  (
-                    omega (arith, length-identifierBytes (h .ids)),
-                    (
-                      omega (arith, pairs, length-lengthBytes (h .lengths)),
-                      (
-                        omega (arith, pairs, length-addressBytes (firstContent (length (h .ids))) (h .lengths)),
-                        (
-                          omega (arith, sections),
-                          tt,
-                        ),
-                      ),
-                    ),
-                  ),
-                ),
-              ),
-            ),
-          ),
-        ),
-      ),
-    ),
-  )
+  entry-follows pairs sections =
+      let head = headOf h number in
+      omega (
+        arith,
+        length-numeral 4 (bitsOf integer4 (head .version)),
+        length-numeral 4 (head .nsec),
+        length-numeral 8 (head .nword),
+        length-numeral 8 (head .adata),
+        length-numeral 8 (head .ldata),
+        length-numeral 8 (head .xnum .0),
+        length-identifierBytes (h .ids),
+        length-lengthBytes (h .lengths),
+        length-addressBytes (firstContent (length (h .ids))) (h .lengths),
+      )
 
   -- all of them, on an image
   pub entry-one : (image : List ℕ) → writes (writes (writes image (headWrites start (headOf h number))) (tableWrites start (h .ids) (h .lengths))) (contentWrites start h) ≡ writes image entryWrites
@@ -130,24 +75,22 @@ module _ (start : ℕ) (h : Handed) (number : EntryNumber) where
     abbrev pub stored : List ℕ
     stored = writes image entryWrites
 
+    follows : Follows (4 * start) entryWrites
+    follows = entry-follows pairs sections
+
     -- what the write behind k others wrote
-    read : (k at : ℕ) (ys : List ℕ) → take k entryWrites ++ put at ys ∷ drop (k + 1) entryWrites ≡ entryWrites → at + length ys ≤ length image → part stored at (length ys) ≡ ys
-    read k at ys e l =
-        subst (λ (ws : List Write). part (writes image ws) at (length ys) ≡ ys) e
-        (follow-read image (4 * start) (take k entryWrites) at ys (drop (k + 1) entryWrites) (subst (Follows (4 * start)) (sym e) (entry-follows pairs sections)) l)
+    read : (k at : ℕ) (ys : List ℕ) → BehindOf k (put at ys) entryWrites → at + length ys ≤ length image → part stored at (length ys) ≡ ys
+    read = follow-read image (4 * start) entryWrites follows
 
     -- a part of it
-    inside : (k at : ℕ) (ys : List ℕ) → take k entryWrites ++ put at ys ∷ drop (k + 1) entryWrites ≡ entryWrites → at + length ys ≤ length image
+    inside : (k at : ℕ) (ys : List ℕ) → BehindOf k (put at ys) entryWrites → at + length ys ≤ length image
         → (b m c : ℕ) → b + m ≤ length ys → c ≡ at + b → part stored c m ≡ part ys b m
     inside k at ys e l b m c h q =
         sym (part-part stored at (length ys) b m c h q) ∙ ap (λ (xs : List ℕ). part xs b m) (read k at ys e l)
 
     -- a number among the head's words
-    number4 : (k at u : ℕ) → take k entryWrites ++ put at (numeral 4 u) ∷ drop (k + 1) entryWrites ≡ entryWrites → u < 2 ^ 32 → at + 4 ≤ length image → bitsAt integer4 stored at ≡ u
-    number4 k at u e f l = bits-of integer4 stored at u f (read k at (numeral 4 u) e (omega (arith, length-numeral 4 u)))
-
-    number8 : (k at u : ℕ) → take k entryWrites ++ put at (numeral 8 u) ∷ drop (k + 1) entryWrites ≡ entryWrites → u < 2 ^ 64 → at + 8 ≤ length image → bitsAt integer8 stored at ≡ u
-    number8 k at u e f l = bits-of integer8 stored at u f (read k at (numeral 8 u) e (omega (arith, length-numeral 8 u)))
+    head-word : (w : Width) (k at u : ℕ) → BehindOf k (put at (numeral (bytes w) u)) entryWrites → u < 2 ^ bits w → at + bytes w ≤ length image → bitsAt w stored at ≡ u
+    head-word w = bits-follow w image (4 * start) entryWrites follows
 
     -- words 1 to 11
     pub code-stored : codeOf stored start ≡ entryCode
@@ -162,23 +105,23 @@ module _ (start : ℕ) (h : Handed) (number : EntryNumber) where
 
     pub nsec-stored : nsecIn h ≤ 64 → nsecOf stored start ≡ nsecIn h
     unfolding word4 headFrom
-    nsec-stored few = number4 2 (wordOffset start 3) (nsecIn h) refl (omega arith) (omega arith)
+    nsec-stored few = head-word integer4 2 (wordOffset start 3) (nsecIn h) refl (omega arith) (omega arith)
 
     pub nword-stored : nwordIn h < 2 ^ 64 → nwordOf stored start ≡ nwordIn h
     unfolding word8 headFrom
-    nword-stored small = number8 3 (wordOffset start 4) (nwordIn h) refl small (omega arith)
+    nword-stored small = head-word integer8 3 (wordOffset start 4) (nwordIn h) refl small (omega arith)
 
     pub adata-stored : headOf h number .adata < 2 ^ 64 → adataOf stored start ≡ headOf h number .adata
     unfolding word8
-    adata-stored small = number8 4 (wordOffset start 6) (headOf h number .adata) refl small (omega arith)
+    adata-stored small = head-word integer8 4 (wordOffset start 6) (headOf h number .adata) refl small (omega arith)
 
     pub ldata-stored : ldataIn h < 2 ^ 64 → ldataOf stored start ≡ ldataIn h
     unfolding word8 headFrom
-    ldata-stored small = number8 5 (wordOffset start 8) (ldataIn h) refl small (omega arith)
+    ldata-stored small = head-word integer8 5 (wordOffset start 8) (ldataIn h) refl small (omega arith)
 
     pub xnum-stored : number .0 < 2 ^ 64 → xnumOf stored start ≡ number .0
     unfolding word8 headFrom
-    xnum-stored small = number8 6 (wordOffset start 10) (number .0) refl small (omega arith)
+    xnum-stored small = head-word integer8 6 (wordOffset start 10) (number .0) refl small (omega arith)
 
     -- the tables
     pub identifier-stored : (i : ℕ) → i < nsecIn h → SFits integer4 (getD (h .ids) i (pos 0)) → identifierAt stored start i ≡ getD (h .ids) i (pos 0)
