@@ -1,12 +1,12 @@
 -- Laws of an entry's pieces: the tests that run over the sections, one section after the other, and where a piece stands that passed.
 -- Assumes nothing.
-use mathlib.Core.Path.{_≡_}
+use mathlib.Core.Path.{_≡_, refl}
 use mathlib.Core.Bool.{Bool, true, _&&_, and-eq-true-iff}
 use mathlib.Core.List.{List}
 use Prim.Native.Nat.{ℕ, _+_, _^_, _≤_, _<_}
 use native.Mathlib.Omega.{arith}
 use native.Mathlib.Numerals.{add-one}
-use borrow.Author.Tests.{leb-true, ne-eqb}
+use borrow.Author.Tests.{leb-true, le-leb, ne-eqb}
 use Rattle.words.specs.Word.{integer8, signedOf}
 use Rattle.words.specs.Range.{atLeast}
 use Rattle.words.proofs.Ranges.{atLeast-bounds}
@@ -67,3 +67,21 @@ module _ (file : List ℕ) (start nsec : ℕ) where
   pub sections-run : Run (sectionsApart file start nsec) (λ k. apartFrom file start nsec (sectionOf file start nsec k) k)
   unfolding sectionsApart
   sections-run = record { next = λ k. rw add-one }
+
+-- no section is within, and none apart from another
+pub within-none : (file : List ℕ) (start nsec nword : ℕ) → sectionsWithin file start nsec nword 0 ≡ true
+unfolding sectionsWithin
+within-none file start nsec nword = refl
+
+pub apart-none : (file : List ℕ) (start nsec : ℕ) (p : Piece) → apartFrom file start nsec p 0 ≡ true
+unfolding apartFrom
+apart-none file start nsec p = refl
+
+pub sections-none : (file : List ℕ) (start nsec : ℕ) → sectionsApart file start nsec 0 ≡ true
+unfolding sectionsApart
+sections-none file start nsec = refl
+
+-- a piece that ends before another shares no word with it
+pub apart-ends : (p q : Piece) → p .address .0 + p .words ≤ q .address .0 → apart p q ≡ true
+unfolding apart
+apart-ends p q l = rw (le-leb (p .address .0 + p .words) (q .address .0) l)

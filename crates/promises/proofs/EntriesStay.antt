@@ -27,7 +27,7 @@ use Rattle.writer.proofs.Places.{start-low, nex-more}
 use Rattle.writer.proofs.Kept.{either, nex-full, nex-kept, addresses-kept}
 use Rattle.writer.proofs.Frame.{Beside, frame}
 use Rattle.writer.proofs.Accepting.{after, admitted-after, number-last, slotThen}
-use Rattle.writer.proofs.ReadBack.{slot-low}
+use Rattle.writer.proofs.Admitting.{slot-low}
 use Rattle.promises.proofs.Areas.{areas-order, area-holds}
 use Rattle.promises.proofs.Spread.{opened-behind, opened-free}
 

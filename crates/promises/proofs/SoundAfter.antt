@@ -30,7 +30,7 @@ use Rattle.writer.proofs.Places.{new-low, start-low}
 use Rattle.writer.proofs.Kept.{either, nex-full, nex-kept, addresses-kept, address-new, area-ends-after, after-same, after-agree}
 use Rattle.writer.proofs.Frame.{Beside}
 use Rattle.writer.proofs.Accepting.{after, admitted-after, number-last, slotThen}
-use Rattle.writer.proofs.ReadBack.{first-free}
+use Rattle.writer.proofs.Admitting.{first-free}
 use Rattle.writer.proofs.Reopened.{not-refused, entered-new}
 use Rattle.promises.specs.Regions.{SoundIn}
 use Rattle.promises.proofs.Areas.{area-end-le, area-holds}

@@ -30,7 +30,7 @@ use Rattle.descriptor.proofs.Passed.{settled, lent}
 use Rattle.writer.specs.Creation.{fieldOffset, settingWrites, countWrites, growthWrites, firstWritten, creationRefusal, createdFile}
 use Rattle.writer.specs.Bounds.{Storable}
 use Rattle.writer.proofs.Created.{created-fits}
-use Rattle.writer.proofs.ReadBack.{apt, validated}
+use Rattle.writer.proofs.Admitting.{apt, validated}
 
 -- the addresses of a new file: none
 abbrev pub noAddresses : List RecordNumber

@@ -6,6 +6,8 @@ pub mod Kept
 pub mod Accepting
 pub mod Answering
 pub mod Frame
+pub mod Admitting
+pub mod FirstRecordAfter
 pub mod ReadBack
 pub mod Stored
 pub mod Reopened

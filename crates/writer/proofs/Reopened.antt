@@ -1,16 +1,14 @@
 -- An accepted append opened by its number: every rule of an entry holds of it, and it reads as it was handed in. Assumes nothing.
-use Prim.Native.Nat.{ℕ, zero, suc, _+_, _*_, _-_, _^_, _≤_, _<_}
-use mathlib.Core.Path.{_≡_, refl, sym, ap, ap₂, subst, _∙_}
+use Prim.Native.Nat.{ℕ, _+_, _*_, _-_, _^_, _≤_, _<_}
+use mathlib.Core.Path.{_≡_, refl, sym, ap, ap₂, _∙_}
 use mathlib.Core.Logic.{inr}
-use mathlib.Core.Bool.{Bool, true, false, false≢true, cond}
+use mathlib.Core.Bool.{Bool, true, false, cond}
 use mathlib.Core.List.{List}
 use native.Mathlib.Omega.{arith}
-use native.Mathlib.Nat.{le-div-iff-mul-le, div-le-self, lt-of-not-le}
-use native.Mathlib.Decide.{decLe}
-use native.Mathlib.Numerals.{add-one}
-use borrow.Author.Tests.{leb-true, eqb-false, le-leb, eq-eqb, ne-eqb}
+use native.Mathlib.Nat.{le-div-iff-mul-le, div-le-self}
+use borrow.Author.Tests.{eqb-false, le-leb, eq-eqb, ne-eqb}
 use lib.Dec.{eqb}
-use lib.IntN.{ℤ, pos, negsuc}
+use lib.IntN.{pos}
 use lib.ListN.{length, getD, take}
 use mir.Val.{SFits}
 use Rattle.image.specs.Image.{part}
@@ -31,9 +29,9 @@ use Rattle.descriptor.specs.Refusal.{refusalIn}
 use Rattle.descriptor.specs.FirstRecord.{freeOf}
 use Rattle.entry.specs.declared.contents.Piece.{Piece}
 use Rattle.entry.specs.EntryDescriptor.{wordOffset, word4, word8, codeOf, entryCode, versionOf, nsecOf, nwordOf, adataOf, ldataOf, xnumOf, identifierAt, lengthAt, addressAt, sectionOf, dataOf}
-use Rattle.entry.specs.Contents.{firstContent, pieceWithin, dataWithin, sectionsWithin, apart, apartFrom, sectionsApart, dataApart}
+use Rattle.entry.specs.Contents.{firstContent, pieceWithin, dataWithin, sectionsWithin, apartFrom, sectionsApart, dataApart}
 use Rattle.entry.specs.Opening as opening
-use Rattle.entry.proofs.Pieces.{sectionWithin, within-run, apart-run, sections-run}
+use Rattle.entry.proofs.Pieces.{sectionWithin, within-run, apart-run, sections-run, within-none, apart-none, sections-none, apart-ends}
 use Rattle.entry.proofs.Entering.{slot-inside, entry-content, entered-numbers}
 use Rattle.writer.specs.Handed.{Handed, wordsOf, sumOf, nsecIn, ldataIn, nwordIn}
 use Rattle.writer.specs.Placing.{entryStart, numbersAfter, addressesAfter}
@@ -41,49 +39,14 @@ use Rattle.writer.specs.Creation.{countWrites}
 use Rattle.writer.specs.Writing.{headFrom, headOf, slotWrites, areaWritten, entryWritten, indexWritten, appended}
 use Rattle.writer.specs.Bounds.{Accepted}
 use Rattle.writer.proofs.HandedIn.{positive-run}
-use Rattle.writer.proofs.TableBytes.{sum-next, sum-fewer, counted}
+use Rattle.writer.proofs.TableBytes.{sum-next, sum-fewer, sum-rise, some-words, counted}
 use Rattle.writer.proofs.Places.{start-low}
 use Rattle.writer.proofs.Kept.{either, kept, free-after}
 use Rattle.writer.proofs.Accepting.{value-bytes, xnext-small, entry-within, entry-small, after, number-last, slotThen, slot-within}
 use Rattle.writer.proofs.Frame.{counts-keep, slot-keep}
-use Rattle.writer.proofs.ReadBack.{within-row, atLeast-row, first-free, length-area, length-entry, slot-behind}
+use Rattle.writer.proofs.Admitting.{within-row, atLeast-row, first-free}
+use Rattle.writer.proofs.FirstRecordAfter.{length-area, length-entry, slot-behind}
 use Rattle.writer.proofs.Stored.{entryWrites, entry-one, code-stored, version-stored, nsec-stored, nword-stored, adata-stored, ldata-stored, xnum-stored, identifier-stored, length-bits, address-stored, section-bytes, data-bytes}
-
--- ---- lengths that are 1 or more
-
-some-words : (z : ℤ) → atLeast 1 z ≡ true → 1 ≤ wordsOf z
-unfolding atLeast
-some-words (pos n) e = leb-true 1 n e
-some-words (negsuc n) e = absurd (false≢true e)
-
--- the lengths before a section end before those before a later one
-sum-rise : (zs : List ℤ) (j k : ℕ) → j < k → k ≤ length zs → sumOf (take j zs) + wordsOf (getD zs j (pos 0)) ≤ sumOf (take k zs)
-sum-rise zs j zero h l = absurd (omega arith)
-sum-rise zs j (suc k) h l =
-    let step : sumOf (take (suc k) zs) ≡ sumOf (take k zs) + wordsOf (getD zs k (pos 0)) = ap (λ (n : ℕ). sumOf (take n zs)) (sym (add-one k)) ∙ sum-next zs k (omega arith) in
-    elim (decLe k j) [
-      | yes g ↦ (let e : k ≡ j = omega arith in
-          subst (λ (i : ℕ). sumOf (take i zs) + wordsOf (getD zs i (pos 0)) ≤ sumOf (take (suc k) zs)) e (omega (arith, step)))
-      | no g ↦ omega (arith, step, sum-rise zs j k (lt-of-not-le g) (omega arith))
-    ]
-
--- no section is within, and none apart from another
-within-none : (file : List ℕ) (start nsec nword : ℕ) → sectionsWithin file start nsec nword 0 ≡ true
-unfolding sectionsWithin
-within-none file start nsec nword = refl
-
-apart-none : (file : List ℕ) (start nsec : ℕ) (p : Piece) → apartFrom file start nsec p 0 ≡ true
-unfolding apartFrom
-apart-none file start nsec p = refl
-
-sections-none : (file : List ℕ) (start nsec : ℕ) → sectionsApart file start nsec 0 ≡ true
-unfolding sectionsApart
-sections-none file start nsec = refl
-
--- a piece that ends before another shares no word with it
-apart-ends : (p q : Piece) → p .address .0 + p .words ≤ q .address .0 → apart p q ≡ true
-unfolding apart
-apart-ends p q l = rw (le-leb (p .address .0 + p .words) (q .address .0) l)
 
 module _ (file : List ℕ) (d : DescriptorNumbers) (addresses : List RecordNumber) (h : Handed) (x : Accepted (length file) d addresses h) where
   abbrev start : ℕ

@@ -1,11 +1,13 @@
 -- Laws of the three tables of an entry as bytes, and of the lengths that they are made of: their sum, and their bits. Assumes nothing.
-use mathlib.Core.Path.{_≡_, refl, sym, ap, _∙_}
-use mathlib.Core.Bool.{true}
+use mathlib.Core.Path.{_≡_, refl, sym, ap, subst, _∙_}
+use mathlib.Core.Bool.{true, false≢true}
 use mathlib.Core.List.{List, [], _∷_, _++_, append-assoc, append-nil}
-use Prim.Native.Nat.{ℕ, _+_, _*_, _^_, _≤_, _<_}
+use Prim.Native.Nat.{ℕ, zero, suc, _+_, _*_, _^_, _≤_, _<_}
 use native.Mathlib.Omega.{arith}
-use native.Mathlib.Nat.{mul-suc}
+use native.Mathlib.Nat.{mul-suc, lt-of-not-le}
+use native.Mathlib.Decide.{decLe}
 use native.Mathlib.Numerals.{add-one}
+use borrow.Author.Tests.{leb-true}
 use lib.IntN.{ℤ, pos, negsuc}
 use lib.ListN.{length, getD, take, drop, length-append, take-append-drop}
 use lib.Seq.{take-suc, length-take-le}
@@ -30,6 +32,23 @@ sum-next xs k h = rw (add-one, take-suc xs k (pos 0), sum-append) (omega arith)
 
 pub sum-fewer : (xs : List ℤ) (k : ℕ) → sumOf (take k xs) ≤ sumOf xs
 sum-fewer xs k = omega (arith, sum-append (take k xs) (drop k xs), ap sumOf (take-append-drop k xs))
+
+-- the lengths before a section end before those before a later one
+pub sum-rise : (zs : List ℤ) (j k : ℕ) → j < k → k ≤ length zs → sumOf (take j zs) + wordsOf (getD zs j (pos 0)) ≤ sumOf (take k zs)
+sum-rise zs j zero h l = absurd (omega arith)
+sum-rise zs j (suc k) h l =
+    let step : sumOf (take (suc k) zs) ≡ sumOf (take k zs) + wordsOf (getD zs k (pos 0)) = ap (λ (n : ℕ). sumOf (take n zs)) (sym (add-one k)) ∙ sum-next zs k (omega arith) in
+    elim (decLe k j) [
+      | yes g ↦ (let e : k ≡ j = omega arith in
+          subst (λ (i : ℕ). sumOf (take i zs) + wordsOf (getD zs i (pos 0)) ≤ sumOf (take (suc k) zs)) e (omega (arith, step)))
+      | no g ↦ omega (arith, step, sum-rise zs j k (lt-of-not-le g) (omega arith))
+    ]
+
+-- a length that is 1 or more counts words
+pub some-words : (z : ℤ) → atLeast 1 z ≡ true → 1 ≤ wordsOf z
+unfolding atLeast
+some-words (pos n) e = leb-true 1 n e
+some-words (negsuc n) e = absurd (false≢true e)
 
 pub counted : (z : ℤ) → atLeast 1 z ≡ true → bitsOf integer8 z ≡ wordsOf z
 unfolding atLeast
