@@ -19,6 +19,7 @@ passed s = record {
   gex = toZ w32 (ofZ w32 (s .gex));
 }
 
+-- they are the settings handed in
 pub settings-passed : (s : ClassicSettings) → SFits w32 (s .reclen) → SFits w32 (s .kind) → SFits w32 (s .vind) → SFits w32 (s .lind)
     → SFits w32 (s .flags) → SFits w32 (s .lex1) → SFits w32 (s .gex) → passed s ≡ settingsFrom s
 settings-passed s reclen kind vind lind flags lex1 gex =

@@ -1,9 +1,10 @@
 -- A table that is filled place by place with what a function makes of another table's places is that table, mapped. Assumes nothing.
-use Prim.Native.Nat.{ℕ}
-use mathlib.Core.Path.{_≡_, refl, ap}
+use Prim.Native.Nat.{ℕ, _≤_}
+use mathlib.Core.Path.{_≡_, refl, ap, _∙_}
 use mathlib.Core.List.{List, [], _∷_, map}
 use lib.ListN.{length, getD}
 use Rattle.words.specs.Table.{places}
+use Rattle.words.proofs.Table.{Filling, filling-all}
 
 module _ {A : Type 0} (f : A → ℕ) (blank : A) where
   -- what stands at a place of the new table
@@ -14,5 +15,6 @@ module _ {A : Type 0} (f : A → ℕ) (blank : A) where
   whole [] = refl
   whole (x ∷ xs) = ap (λ (l : List ℕ). f x ∷ l) (whole xs)
 
-  pub all-filled : (n : ℕ) (xs : List A) → length xs ≡ n → places n n (place xs) 0 ≡ map f xs
-  all-filled n xs e = rw (← e) (whole xs)
+  -- so is a table that a loop has filled
+  pub all-filled : {n : ℕ} {table : List ℕ} {filled : ℕ} (xs : List A) → Filling n n (place xs) 0 table filled → n ≤ filled → length xs ≡ n → table ≡ map f xs
+  all-filled xs l h e = filling-all l h ∙ rw (← e) (whole xs)

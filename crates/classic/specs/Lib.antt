@@ -1,2 +1,3 @@
--- What the contracts of `classic` cite beside the definitions of the crates below.
+-- What the contracts of `classic` cite beside the definitions of the crates below; and the bounds that the code asks.
 pub mod Answers
+pub mod Bounds

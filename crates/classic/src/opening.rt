@@ -1,39 +1,38 @@
 // Opening an entry, for C.
 use super::answers::ClassicEntry;
 use super::tables::entry_addresses;
-use entry::Open;
+use entry::OpenCase;
+use entry::Sections;
+use entry::open_case;
 use entry::open_entry;
 use geometry::EntryNumber;
 ghost use Rattle.outcome.specs.Outcome.{Answers};
-ghost use Rattle.entry.specs.Answers.{openOf, numberOf};
-ghost use Rattle.classic.specs.Answers.{entryFor, noEntry};
+ghost use Rattle.entry.specs.Answers.{openOf};
+ghost use Rattle.classic.specs.Answers.{entryFrom, entryFor};
+ghost use Rattle.classic.specs.Bounds.{Slim};
 
-// The refusal of an open, 0 for numbers.
-fn refusal_of(answer: Open) -> u32
-    ensures { λ r. ⌜ Answers (numberOf answer) r ⌝ }
+// An entry from a case and the tables.
+fn entry_from(case: OpenCase, sections: Sections) -> ClassicEntry
+    requires { ⌜ Slim case ⌝ }
+    ensures { λ r. ⌜ Answers (entryFrom case sections) r ⌝ }
 {
-    match answer {
-        Open::Numbers(_, _, _, _, _) => 0,
-        Open::Refused(n) => n,
-    }
-}
-
-// An entry with a refusal.
-fn refused(refusal: u32) -> ClassicEntry
-    ensures { λ r. ⌜ Answers (noEntry refusal) r ⌝ }
-{
+    let place = case.place;
+    let array = case.array;
+    let ids = sections.identifiers;
+    let lengths = sections.lengths;
+    let addresses = sections.addresses;
     ClassicEntry {
-        refusal,
-        record: 0,
-        word: 0,
-        version: 0,
-        nsec: 0,
-        nword: 0,
-        adata: 0,
-        ldata: 0,
-        ids: [0i32; 64],
-        lengths: [0u64; 64],
-        addresses: [0u64; 64],
+        refusal: case.refusal,
+        record: place.record.0,
+        word: place.word.0 as u32,
+        version: case.version,
+        nsec: case.nsec as u32,
+        nword: case.nword,
+        adata: array.adata.0,
+        ldata: array.ldata,
+        ids,
+        lengths,
+        addresses: entry_addresses(addresses),
     }
 }
 
@@ -44,24 +43,6 @@ pub extern "C" fn classic_open(file: &[u8], entry: u64) -> ClassicEntry
 {
     let opened = open_entry(file, EntryNumber(entry));
     let answer = opened.answer;
-    let Open::Numbers(place, version, nsec, nword, array) = answer else {
-        return refused(refusal_of(answer));
-    };
     let sections = opened.sections;
-    let ids = sections.identifiers;
-    let lengths = sections.lengths;
-    let addresses = sections.addresses;
-    ClassicEntry {
-        refusal: 0,
-        record: place.record.0,
-        word: place.word.0 as u32,
-        version,
-        nsec: nsec as u32,
-        nword,
-        adata: array.adata.0,
-        ldata: array.ldata,
-        ids,
-        lengths,
-        addresses: entry_addresses(addresses),
-    }
+    entry_from(open_case(answer), sections)
 }

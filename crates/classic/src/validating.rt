@@ -2,49 +2,25 @@
 use super::answers::ClassicDescriptor;
 use super::answers::ClassicExtension;
 use super::tables::record_numbers;
-use descriptor::Validated;
+use descriptor::ValidatedCase;
 use descriptor::extension_of;
-use descriptor::refusal_of;
 use descriptor::validate;
+use descriptor::validated_case;
 use geometry::ExtensionNumber;
+use geometry::RecordNumber;
 ghost use Rattle.outcome.specs.Outcome.{Answers};
 ghost use Rattle.descriptor.specs.Answers.{validationOf, extensionOf};
-ghost use Rattle.classic.specs.Answers.{descriptorFor, extensionFor, noDescriptor};
+ghost use Rattle.classic.specs.Answers.{descriptorFrom, descriptorFor, extensionFor};
+ghost use Rattle.classic.specs.Bounds.{Narrow};
 
-// A descriptor with a refusal.
-fn refused(refusal: u32) -> ClassicDescriptor
-    ensures { λ r. ⌜ Answers (noDescriptor refusal) r ⌝ }
+// A descriptor from a case and the addresses.
+fn descriptor_from(case: ValidatedCase, addresses: [RecordNumber; 16]) -> ClassicDescriptor
+    requires { ⌜ Narrow (case .numbers) ⌝ }
+    ensures { λ r. ⌜ Answers (descriptorFrom case addresses) r ⌝ }
 {
+    let d = case.numbers;
     ClassicDescriptor {
-        refusal,
-        reclen: 0,
-        kind: 0,
-        vind: 0,
-        lind: 0,
-        flags: 0,
-        xnext: 0,
-        nextrec: 0,
-        nextword: 0,
-        lex1: 0,
-        nex: 0,
-        gex: 0,
-        aex: [0u64; 16],
-    }
-}
-
-// The file's descriptor, or the refusal.
-#[no_mangle]
-pub extern "C" fn classic_validate(file: &[u8]) -> ClassicDescriptor
-    ensures { λ r. ⌜ Answers (descriptorFor (validationOf (now (file .entry)))) r ⌝ }
-{
-    let validation = validate(file);
-    let case = validation.numbers;
-    let Validated::Numbers(d) = case else {
-        return refused(refusal_of(case));
-    };
-    let addresses = validation.addresses;
-    ClassicDescriptor {
-        refusal: 0,
+        refusal: case.refusal,
         reclen: d.reclen as u32,
         kind: d.kind as u32,
         vind: d.vind as u32,
@@ -58,6 +34,17 @@ pub extern "C" fn classic_validate(file: &[u8]) -> ClassicDescriptor
         gex: d.gex as u32,
         aex: record_numbers(addresses),
     }
+}
+
+// The file's descriptor, or the refusal.
+#[no_mangle]
+pub extern "C" fn classic_validate(file: &[u8]) -> ClassicDescriptor
+    ensures { λ r. ⌜ Answers (descriptorFor (validationOf (now (file .entry)))) r ⌝ }
+{
+    let validation = validate(file);
+    let numbers = validation.numbers;
+    let addresses = validation.addresses;
+    descriptor_from(validated_case(numbers), addresses)
 }
 
 // An extension by its number, or the refusal.

@@ -14,9 +14,10 @@ use Rattle.descriptor.specs.declared.numbers.DescriptorNumbers.{Descript
 use Rattle.descriptor.specs.declared.validating.Validated.{Validated}
 use Rattle.descriptor.specs.declared.validating.Validated.the-variants.{Numbers, Refused}
 use Rattle.descriptor.specs.declared.validating.Validation.{Validation}
-use Rattle.descriptor.specs.FirstRecord.{codeOf, fileCode, numbersOf, addressesOf}
+use Rattle.layout.specs.FirstRecordWords.{fileCode}
+use Rattle.descriptor.specs.FirstRecord.{fileCodeOf, numbersOf, addressesOf}
 use Rattle.descriptor.specs.Rules.{settingRules, fillingRules, fileRules, settingRefusal, fillingRefusal, fileRefusal}
-use Rattle.descriptor.specs.Answers.{validationOf, noValidation, extensionIn, extensionOf}
+use Rattle.descriptor.specs.Answers.{validationOf, noValidation, validatedCase, extensionIn, extensionOf}
 use Rattle.descriptor.specs.Bounds.{Admitted}
 use Rattle.descriptor.proofs.Refusals.{refusal-append, refusal-none, all-hold, hold-split}
 use Rattle.descriptor.proofs.Passed.{admitted}
@@ -27,35 +28,53 @@ same-numbers e = cc
 not-numbers : {n : DescriptorNumbers} {k : ℕ} → Numbers n ≡ Refused k → ⊥
 not-numbers e = let z : _≡_ {A = ℕ} 0 1 = cc in omega arith
 
+-- the number of a case that is a refusal
+pub refusal-told : {case : Validated} {n r : ℕ} → r ≡ validatedCase case .refusal → case ≡ Refused n → r ≡ n
+refusal-told e t = e ∙ ap (λ (case : Validated). validatedCase case .refusal) t
+
 module _ (file : List ℕ) where
   abbrev d : DescriptorNumbers
   d = numbersOf file
 
-  -- the rules in turn: the length, the code, the settings, the filling
+  -- a file of too few bytes is refused by 1
   pub file-short : leb 64 (length file) ≡ false → fileRefusal file ≡ 1
   unfolding fileRefusal
   file-short h = rw h
 
-  pub file-code : leb 64 (length file) ≡ true → sameBytes (codeOf file) fileCode ≡ false → fileRefusal file ≡ 2
+  -- a file of enough bytes with another code is refused by 2
+  pub file-code : leb 64 (length file) ≡ true → sameBytes (fileCodeOf file) fileCode ≡ false → fileRefusal file ≡ 2
   unfolding fileRefusal
   file-code h c = rw (h, c)
 
-  pub file-rest : leb 64 (length file) ≡ true → sameBytes (codeOf file) fileCode ≡ true
+  -- behind the code the settings count, and then the filling
+  pub file-rest : leb 64 (length file) ≡ true → sameBytes (fileCodeOf file) fileCode ≡ true
       → fileRefusal file ≡ cond (eqb (settingRefusal (length file) d) 0) (fillingRefusal (length file) d (addressesOf file (d .nex))) (settingRefusal (length file) d)
   unfolding fileRefusal settingRefusal fillingRefusal
   file-rest h c = rw (h, c) (refusal-append (settingRules (length file) d) (fillingRules (length file) d (addressesOf file (d .nex))) (omega arith))
 
-  -- a file with no refusal passed them all
-  pub file-passed : fileRefusal file ≡ 0
-      → (64 ≤ length file) × (sameBytes (codeOf file) fileCode ≡ true) × (settingRefusal (length file) d ≡ 0) × (fillingRefusal (length file) d (addressesOf file (d .nex)) ≡ 0)
+  -- what a file with no refusal shows: it passed them all
+  pub record FilePassed : Type 0 where
+    pub long : 64 ≤ length file
+    pub code : sameBytes (fileCodeOf file) fileCode ≡ true
+    pub settings : settingRefusal (length file) d ≡ 0
+    pub filling : fillingRefusal (length file) d (addressesOf file (d .nex)) ≡ 0
+
+  -- a file with no refusal passed them
+  pub file-passed : fileRefusal file ≡ 0 → FilePassed
   unfolding fileRefusal settingRefusal fillingRefusal
   file-passed e =
       let settings = settingRules (length file) d in
       let filling = fillingRules (length file) d (addressesOf file (d .nex)) in
       let a = all-hold (fileRules file d (addressesOf file (d .nex))) (omega arith) e in
       let b = hold-split settings filling (a .1 .1) in
-      (leb-true 64 (length file) (a .0), a .1 .0, refusal-none settings (b .0), refusal-none filling (b .1))
+      record {
+        long = leb-true 64 (length file) (a .0);
+        code = a .1 .0;
+        settings = refusal-none settings (b .0);
+        filling = refusal-none filling (b .1);
+      }
 
+  -- the table has its 16 places
   pub length-addresses : (nex : ℕ) → length (addressesOf file nex) ≡ 16
   unfolding addressesOf
   length-addresses nex = length-places 16 nex _ _
@@ -64,13 +83,14 @@ module _ (file : List ℕ) where
   pub file-admitted : fileRefusal file ≡ 0 → Admitted (length file) d (addressesOf file (d .nex))
   file-admitted e =
       let p = file-passed e in
-      admitted (length file) d (addressesOf file (d .nex)) (length-addresses (d .nex)) (p .0) (p .2) (p .3)
+      admitted (length file) d (addressesOf file (d .nex)) (length-addresses (d .nex)) (p .long) (p .settings) (p .filling)
 
-  -- the answer of `validate`, in its two cases
+  -- a file that is not refused has its numbers and addresses
   pub answer-numbers : fileRefusal file ≡ 0 → validationOf file ≡ record { refusal = 0; numbers = Numbers d; addresses = addressesOf file (d .nex) }
   unfolding validationOf
   answer-numbers e = simp e
 
+  -- a file that is refused has no numbers
   pub answer-refused : (n : ℕ) → fileRefusal file ≡ n → eqb n 0 ≡ false → validationOf file ≡ noValidation n
   unfolding validationOf
   answer-refused n e h = simp (e, h)
@@ -82,6 +102,7 @@ module _ (file : List ℕ) where
     pub addresses : v .addresses ≡ addressesOf file (d .nex)
     pub admitted : Admitted (length file) n (v .addresses)
 
+  -- what a validation that gave numbers shows
   pub told : (v : Validation) (n : DescriptorNumbers) → v ≡ validationOf file → v .numbers ≡ Numbers n → Told v n
   told v n e q = by (eqb (fileRefusal file) 0) refl
     where

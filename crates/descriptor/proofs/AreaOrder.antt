@@ -1,6 +1,6 @@
 -- Laws of the index areas: one area more, what holds of fewer, and the bounds that the rules leave. Assumes nothing.
 use Prim.Native.Nat.{ℕ, zero, suc, _+_, _*_, _-_, _^_, _≤_, _<_}
-use mathlib.Core.Path.{_≡_, refl}
+use mathlib.Core.Path.{_≡_, refl, ap}
 use mathlib.Core.Bool.{Bool, true}
 use mathlib.Core.List.{List}
 use native.Mathlib.Omega.{arith}
@@ -20,7 +20,7 @@ use Rattle.geometry.proofs.Capacities.{capacity-limit, over-fewer}
 use Rattle.geometry.proofs.Slots.{records-least}
 use Rattle.descriptor.specs.declared.numbers.DescriptorNumbers.{DescriptorNumbers}
 use Rattle.descriptor.specs.FirstRecord.{aexOf, growthIn, freeOf}
-use Rattle.descriptor.specs.Rules.{areaAfter, areasStart, areasEnd}
+use Rattle.descriptor.specs.Areas.{areaAfter, areasStart, areasEnd}
 use Rattle.descriptor.specs.Bounds.{Settled, Admitted}
 
 -- an area has no more records than words
@@ -29,34 +29,46 @@ records-small capacity lind reclen h c l =
     omega (arith, records-least (capacity * lind) reclen (capacity * lind) h (omega (arith, mul-le-mul-left (capacity * lind) h)), mul-le-mul c l)
 
 module _ (d : DescriptorNumbers) (addresses : List RecordNumber) where
-  pub after-none : areaAfter d addresses 0 ≡ 2
+  -- the record after no area
+  pub record-none : areaAfter d addresses 0 ≡ record { 0 = 2 }
   unfolding areaAfter
-  after-none = refl
+  record-none = refl
 
-  pub after-next : (k : ℕ) → areaAfter d addresses (k + 1) ≡ aexOf addresses (k + 1) .0 + areaRecords (capacityOf (growthIn d) (k + 1)) (d .lind) (d .reclen)
+  -- the record after one area more
+  pub record-next : (k : ℕ) → areaAfter d addresses (k + 1) ≡ record { 0 = aexOf addresses (k + 1) .0 + areaRecords (capacityOf (growthIn d) (k + 1)) (d .lind) (d .reclen) }
   unfolding areaAfter
-  after-next k = rw add-one
+  record-next k = rw add-one
 
+  -- its number
+  pub after-none : areaAfter d addresses 0 .0 ≡ 2
+  after-none = ap (λ (r : RecordNumber). r .0) record-none
+
+  -- the number of the record after one area more
+  pub after-next : (k : ℕ) → areaAfter d addresses (k + 1) .0 ≡ aexOf addresses (k + 1) .0 + areaRecords (capacityOf (growthIn d) (k + 1)) (d .lind) (d .reclen)
+  after-next k = ap (λ (r : RecordNumber). r .0) (record-next k)
+
+  -- no area is out of order
   pub starts-none : areasStart d addresses 0 ≡ true
   unfolding areasStart
   starts-none = refl
 
-  -- the test of area k + 1, and the run of these tests
+  -- the test of area k + 1
   abbrev pub areaStarts : ℕ → Bool
-  areaStarts k = atLeast (areaAfter d addresses k) (signedOf w64 (aexOf addresses (k + 1) .0))
+  areaStarts k = atLeast (areaAfter d addresses k .0) (signedOf w64 (aexOf addresses (k + 1) .0))
 
+  -- the areas are in order where each of these tests holds
   pub starts-run : Run (areasStart d addresses) areaStarts
   unfolding areasStart
   starts-run = record { next = λ k. rw add-one }
 
   -- an area in order starts where the one before it ends or later, at a record that is no negative number
   pub area-low : (k n : ℕ) → k < n → areasStart d addresses n ≡ true
-      → (areaAfter d addresses k ≤ aexOf addresses (k + 1) .0) × (aexOf addresses (k + 1) .0 < 2 ^ 63)
+      → (areaAfter d addresses k .0 ≤ aexOf addresses (k + 1) .0) × (aexOf addresses (k + 1) .0 < 2 ^ 63)
   area-low k n h e =
-      atLeast-bounds w64 (areaAfter d addresses k) (aexOf addresses (k + 1) .0) (run-test starts-run k n h e)
+      atLeast-bounds w64 (areaAfter d addresses k .0) (aexOf addresses (k + 1) .0) (run-test starts-run k n h e)
 
   -- the record after some areas in order is 2 or later
-  pub after-low : (k n : ℕ) → k ≤ n → areasStart d addresses n ≡ true → 2 ≤ areaAfter d addresses k
+  pub after-low : (k n : ℕ) → k ≤ n → areasStart d addresses n ≡ true → 2 ≤ areaAfter d addresses k .0
   after-low zero n h e = omega (arith, after-none)
   after-low (suc k) n h e =
       let q : suc k ≡ k + 1 = omega arith in
@@ -79,27 +91,28 @@ growing d k s h = record {
 -- ---- where the areas of an admitted file end
 
 module _ (bytes : ℕ) (d : DescriptorNumbers) (addresses : List RecordNumber) (a : Admitted bytes d addresses) where
-  after-plus : (k m : ℕ) → k + m ≤ d .nex → areaAfter d addresses k ≤ areaAfter d addresses (k + m)
+  after-plus : (k m : ℕ) → k + m ≤ d .nex → areaAfter d addresses k .0 ≤ areaAfter d addresses (k + m) .0
   after-plus k zero h = let q : k + 0 ≡ k = omega arith in rw q (omega arith)
   after-plus k (suc m) h =
       let q : k + suc m ≡ k + m + 1 = omega arith in
       rw q (omega (arith, after-plus k m (omega arith), after-next d addresses (k + m), area-low d addresses (k + m) (d .nex) (omega arith) (a .started) .0))
 
-  pub after-le : (k n : ℕ) → k ≤ n → n ≤ d .nex → areaAfter d addresses k ≤ areaAfter d addresses n
+  -- more areas end no earlier
+  pub after-le : (k n : ℕ) → k ≤ n → n ≤ d .nex → areaAfter d addresses k .0 ≤ areaAfter d addresses n .0
   after-le k n h l = let q : k + (n - k) ≡ n = omega arith in (rw q at (after-plus k (n - k) (omega arith)))
 
   -- each area ends at or before the next free position
-  pub area-ends : (k : ℕ) → k ≤ d .nex → (areaAfter d addresses k - 1) * d .reclen ≤ freeOf d
+  pub area-ends : (k : ℕ) → k ≤ d .nex → (areaAfter d addresses k .0 - 1) * d .reclen ≤ freeOf d
   unfolding areasEnd positionOf
   area-ends k h =
-      let last = leb-true ((areaAfter d addresses (d .nex) - 1) * d .reclen + (1 - 1)) (freeOf d) (a .ended) in
-      let less : areaAfter d addresses k - 1 ≤ areaAfter d addresses (d .nex) - 1 = omega (arith, after-le k (d .nex) h (omega arith)) in
+      let last = leb-true ((areaAfter d addresses (d .nex) .0 - 1) * d .reclen + (1 - 1)) (freeOf d) (a .ended) in
+      let less : areaAfter d addresses k .0 - 1 ≤ areaAfter d addresses (d .nex) .0 - 1 = omega (arith, after-le k (d .nex) h (omega arith)) in
       omega (arith, mul-le-mul-right (d .reclen) less)
 
   -- an area from its first word to its last
   pub area-words : (k : ℕ) → 1 ≤ k → k ≤ d .nex
       → positionOf (d .reclen) (aexOf addresses k) (record { 0 = 1 }) + areaRecords (capacityOf (growthIn d) k) (d .lind) (d .reclen) * d .reclen
-      ≡ (areaAfter d addresses k - 1) * d .reclen
+      ≡ (areaAfter d addresses k .0 - 1) * d .reclen
   unfolding positionOf
   area-words k h l =
       let q : k - 1 + 1 ≡ k = omega arith in
@@ -123,4 +136,4 @@ module _ (bytes : ℕ) (d : DescriptorNumbers) (addresses : List RecordNumber) (
       let low = rw q at (area-low d addresses (k - 1) (d .nex) (omega arith) (a .started)) in
       let two = after-low d addresses (k - 1) (d .nex) (omega arith) (a .started) in
       let some : 1 ≤ d .reclen = omega (arith, a .settled .reclen-low) in
-      (omega arith, omega (arith, area-ends k l, a .room, a .lent .high, mul-le-mul-left (areaAfter d addresses k - 1) some))
+      (omega arith, omega (arith, area-ends k l, a .room, a .lent .high, mul-le-mul-left (areaAfter d addresses k .0 - 1) some))

@@ -11,10 +11,12 @@ use Rattle.geometry.proofs.Capacities.{total-none}
 use Rattle.descriptor.specs.Rules.{entriesFit}
 
 module _ (g : Growth) (n : ℕ) where
+  -- no extension fits no entry alone
   pub fit-none : entriesFit g 0 n ≡ eqb n 0
   unfolding entriesFit
   fit-none = refl
 
+  -- extensions fit what they hold together and the last of them is needed for
   pub fit-some : (k : ℕ) → 1 ≤ k → entriesFit g k n ≡ leb n (totalOf g k) && ltb (totalOf g (k - 1)) n
   unfolding entriesFit
   fit-some zero h = absurd (omega arith)

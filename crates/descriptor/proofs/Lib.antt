@@ -5,3 +5,4 @@ pub mod Passed
 pub mod Answered
 pub mod AreaOrder
 pub mod Fitting
+pub mod Admitting

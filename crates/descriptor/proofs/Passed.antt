@@ -1,5 +1,5 @@
 -- What the rules leave once they are passed. Assumes nothing.
-use Prim.Native.Nat.{ℕ, _+_, _*_, _-_, _/_, _%_, _^_, _≤_, _<_}
+use Prim.Native.Nat.{ℕ, _+_, _*_, _-_, _/_, _%_, _^_, _≤_}
 use mathlib.Core.Path.{_≡_, refl, sym}
 use mathlib.Core.Bool.{Bool, true, false, not}
 use mathlib.Core.List.{List}
@@ -7,22 +7,23 @@ use native.Mathlib.Omega.{arith}
 use native.Mathlib.Nat.{mul-le-mul-left, mod-eq-of-lt, lt-of-not-le}
 use native.Mathlib.Decide.{decLe}
 use borrow.Author.Tests.{leb-true, eqb-true}
-use lib.Dec.{leb}
+use lib.Dec.{leb, eqb}
 use lib.ListN.{length}
 use mir.Syntax.{w32, w64}
 use Rattle.words.specs.Word.{signedOf}
 use Rattle.words.specs.Range.{within, atLeast}
 use Rattle.words.proofs.Ranges.{within-bounds, atLeast-bounds}
 use Rattle.geometry.specs.declared.units.RecordNumber.{RecordNumber}
-use Rattle.geometry.specs.Units.{positionOf}
+use Rattle.geometry.specs.Units.{positionOf, entriesBefore}
 use Rattle.geometry.specs.Growth.{overOf}
 use Rattle.descriptor.specs.declared.numbers.DescriptorNumbers.{DescriptorNumbers}
-use Rattle.descriptor.specs.Refusal.{AllHold}
 use Rattle.descriptor.specs.FirstRecord.{mexOf, growthIn, freeOf}
-use Rattle.descriptor.specs.Rules.{settingRules, fillingRules, settingRefusal, fillingRefusal}
+use Rattle.descriptor.specs.Areas.{areasStart, areasEnd}
+use Rattle.descriptor.specs.Rules.{entriesFit, settingRules, fillingRules, settingRefusal, fillingRefusal}
 use Rattle.descriptor.specs.Bounds.{Settled, Lent, Free, Admitted}
 use Rattle.descriptor.proofs.Refusals.{all-hold}
 
+-- mex is 16 at most
 pub mex-high : (reclen : ℕ) → mexOf reclen ≤ 16
 unfolding mexOf
 mex-high reclen = omega arith
@@ -35,29 +36,64 @@ not-true : (b : Bool) → not b ≡ true → b ≡ false
 not-true true e = sym e
 not-true false e = refl
 
--- an Integer*4 that is low to high
-between : (low high u : ℕ) → high < 2 ^ 31 → within low high (signedOf w32 u) ≡ true → (low ≤ u) × (u ≤ high)
-between low high u h t = within-bounds w32 low high u h t
-
 -- whole records and something: one record at least
 one-record : (bytes r : ℕ) → bytes % r ≡ 0 → 64 ≤ bytes → r ≤ bytes
 one-record bytes r e h =
     elim (decLe r bytes) [ yes l ↦ l | no l ↦ absurd (omega (arith, mod-eq-of-lt (lt-of-not-le l))) ]
 
-module _ (bytes : ℕ) (d : DescriptorNumbers) where
-  -- rules 3 to 8 hold one by one
-  pub setting-rows : settingRefusal bytes d ≡ 0 → AllHold (settingRules bytes d)
-  unfolding settingRefusal
-  setting-rows e = all-hold (settingRules bytes d) (omega arith) e
+-- rules 3 to 8, one by one
+pub record SettingsHold (bytes : ℕ) (d : DescriptorNumbers) : Type 0 where
+  pub reclen : within 16 4096 (signedOf w32 (d .reclen)) ≡ true
+  pub lent : leb bytes (2 ^ 30) ≡ true
+  pub whole : eqb (bytes % (4 * d .reclen)) 0 ≡ true
+  pub kind : within 1 3 (signedOf w32 (d .kind)) ≡ true
+  pub vind : atLeast 2 (signedOf w32 (d .vind)) ≡ true
+  pub lind : within 3 256 (signedOf w32 (d .lind)) ≡ true
+  pub flags : within 0 1 (signedOf w32 (d .flags)) ≡ true
+  pub lex1 : within 1 4096 (signedOf w32 (d .lex1)) ≡ true
+  pub gex : within 10 20 (signedOf w32 (d .gex)) ≡ true
+  pub nex : within 0 (mexOf (d .reclen)) (signedOf w32 (d .nex)) ≡ true
+  pub capacities : not (overOf (growthIn d) (d .nex)) ≡ true
 
+-- rules 9 to 11, one by one
+pub record FillingHolds (bytes : ℕ) (d : DescriptorNumbers) (addresses : List RecordNumber) : Type 0 where
+  pub xnext : atLeast 1 (signedOf w64 (d .xnext .0)) ≡ true
+  pub fit : entriesFit (growthIn d) (d .nex) (entriesBefore (d .xnext)) ≡ true
+  pub nextrec : atLeast 2 (signedOf w64 (d .nextrec .0)) ≡ true
+  pub nextword : within 1 (d .reclen) (signedOf w32 (d .nextword .0)) ≡ true
+  pub room : leb (freeOf d) (bytes / 4) ≡ true
+  pub started : areasStart d addresses (d .nex) ≡ true
+  pub ended : areasEnd d addresses ≡ true
+
+module _ (bytes : ℕ) (d : DescriptorNumbers) where
+  -- they hold where there is no refusal
+  pub setting-rows : settingRefusal bytes d ≡ 0 → SettingsHold bytes d
+  unfolding settingRefusal
+  setting-rows e =
+      let (reclen, (lent, (whole, (kind, (vind, (lind, (flags, (lex1, (gex, (nex, (capacities, _))))))))))) = all-hold (settingRules bytes d) (omega arith) e in
+      record {
+        reclen = reclen;
+        lent = lent;
+        whole = whole;
+        kind = kind;
+        vind = vind;
+        lind = lind;
+        flags = flags;
+        lex1 = lex1;
+        gex = gex;
+        nex = nex;
+        capacities = capacities;
+      }
+
+  -- the settings that pass are within their limits
   pub settled : settingRefusal bytes d ≡ 0 → Settled d
   settled e =
       let a = setting-rows e in
-      let reclen = between 16 4096 (d .reclen) (omega arith) (a .0) in
-      let lind = between 3 256 (d .lind) (omega arith) (a .1 .1 .1 .1 .1 .0) in
-      let lex1 = between 1 4096 (d .lex1) (omega arith) (a .1 .1 .1 .1 .1 .1 .1 .0) in
-      let gex = between 10 20 (d .gex) (omega arith) (a .1 .1 .1 .1 .1 .1 .1 .1 .0) in
-      let nex = between 0 (mexOf (d .reclen)) (d .nex) (omega (arith, mex-high (d .reclen))) (a .1 .1 .1 .1 .1 .1 .1 .1 .1 .0) in
+      let reclen = within-bounds w32 16 4096 (d .reclen) (omega arith) (a .reclen) in
+      let lind = within-bounds w32 3 256 (d .lind) (omega arith) (a .lind) in
+      let lex1 = within-bounds w32 1 4096 (d .lex1) (omega arith) (a .lex1) in
+      let gex = within-bounds w32 10 20 (d .gex) (omega arith) (a .gex) in
+      let nex = within-bounds w32 0 (mexOf (d .reclen)) (d .nex) (omega (arith, mex-high (d .reclen))) (a .nex) in
       record {
         reclen-low = reclen .0;
         reclen-high = reclen .1;
@@ -69,15 +105,15 @@ module _ (bytes : ℕ) (d : DescriptorNumbers) where
         gex-high = gex .1;
         nex-high = omega (arith, mex-high (d .reclen), nex .1);
         nex-room = mex-room (d .reclen) (d .nex) (reclen .0) (nex .1);
-        within = not-true (overOf (growthIn d) (d .nex)) (a .1 .1 .1 .1 .1 .1 .1 .1 .1 .1 .0);
+        within = not-true (overOf (growthIn d) (d .nex)) (a .capacities);
       }
 
+  -- and the bytes lent are whole records, one at least
   pub lent : settingRefusal bytes d ≡ 0 → 64 ≤ bytes → Lent bytes d
   lent e h =
       let a = setting-rows e in
-      let high = leb-true bytes (2 ^ 30) (a .1 .0) in
-      let whole = eqb-true (bytes % (4 * d .reclen)) 0 (a .1 .1 .0) in
-      record { high = high; whole = whole; first = one-record bytes (4 * d .reclen) whole h }
+      let whole = eqb-true (bytes % (4 * d .reclen)) 0 (a .whole) in
+      record { high = leb-true bytes (2 ^ 30) (a .lent); whole = whole; first = one-record bytes (4 * d .reclen) whole h }
 
 -- rule 10, row by row
 pub free-of : (bytes : ℕ) (d : DescriptorNumbers) → Settled d → bytes ≤ 2 ^ 30 → atLeast 2 (signedOf w64 (d .nextrec .0)) ≡ true
@@ -85,7 +121,7 @@ pub free-of : (bytes : ℕ) (d : DescriptorNumbers) → Settled d → bytes ≤ 
 unfolding positionOf
 free-of bytes d s high r w p =
     let records = atLeast-bounds w64 2 (d .nextrec .0) r in
-    let words = between 1 (d .reclen) (d .nextword .0) (omega (arith, s .reclen-high)) w in
+    let words = within-bounds w32 1 (d .reclen) (d .nextword .0) (omega (arith, s .reclen-high)) w in
     let room = leb-true (freeOf d) (bytes / 4) p in
     let some : 1 ≤ d .reclen = omega (arith, s .reclen-low) in
     record {
@@ -95,12 +131,15 @@ free-of bytes d s high r w p =
       word-high = words .1;
     }
 
--- all of them
 module _ (bytes : ℕ) (d : DescriptorNumbers) (addresses : List RecordNumber) where
-  pub filling-rows : fillingRefusal bytes d addresses ≡ 0 → AllHold (fillingRules bytes d addresses)
+  -- rules 9 to 11 hold where there is no refusal
+  pub filling-rows : fillingRefusal bytes d addresses ≡ 0 → FillingHolds bytes d addresses
   unfolding fillingRefusal
-  filling-rows e = all-hold (fillingRules bytes d addresses) (omega arith) e
+  filling-rows e =
+      let (xnext, (fit, (nextrec, (nextword, (room, (started, (ended, _))))))) = all-hold (fillingRules bytes d addresses) (omega arith) e in
+      record { xnext = xnext; fit = fit; nextrec = nextrec; nextword = nextword; room = room; started = started; ended = ended }
 
+  -- so numbers and addresses that pass all rules are admitted
   pub admitted : length addresses ≡ 16 → 64 ≤ bytes → settingRefusal bytes d ≡ 0 → fillingRefusal bytes d addresses ≡ 0 → Admitted bytes d addresses
   admitted t h e f =
       let a = filling-rows f in
@@ -109,11 +148,11 @@ module _ (bytes : ℕ) (d : DescriptorNumbers) (addresses : List RecordNumber) w
       record {
         settled = s;
         lent = l;
-        counted = atLeast-bounds w64 1 (d .xnext .0) (a .0) .0;
-        fit = a .1 .0;
-        free = free-of bytes d s (l .high) (a .1 .1 .0) (a .1 .1 .1 .0) (a .1 .1 .1 .1 .0);
-        room = leb-true (freeOf d) (bytes / 4) (a .1 .1 .1 .1 .0);
-        started = a .1 .1 .1 .1 .1 .0;
-        ended = a .1 .1 .1 .1 .1 .1 .0;
+        counted = atLeast-bounds w64 1 (d .xnext .0) (a .xnext) .0;
+        fit = a .fit;
+        free = free-of bytes d s (l .high) (a .nextrec) (a .nextword) (a .room);
+        room = leb-true (freeOf d) (bytes / 4) (a .room);
+        started = a .started;
+        ended = a .ended;
         table = t;
       }

@@ -2,7 +2,7 @@
 use mathlib.Core.Path.{_≡_, refl, sym, _∙_}
 use mathlib.Core.Bool.{Bool, true, false, not}
 
--- `if !f(..)` was left, or taken
+-- `if !f(..)` was left
 pub holds : {r e : Bool} → r ≡ e → not r ≡ false → e ≡ true
 holds {r} {e} p q = sym p ∙ by r q
   where
@@ -10,6 +10,7 @@ holds {r} {e} p q = sym p ∙ by r q
     by true q = refl
     by false q = sym q
 
+-- `if !f(..)` was taken
 pub broken : {r e : Bool} → r ≡ e → not r ≡ true → e ≡ false
 broken {r} {e} p q = sym p ∙ by r q
   where

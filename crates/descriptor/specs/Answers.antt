@@ -11,6 +11,8 @@ use Rattle.geometry.specs.Area.{areaRecords}
 use Rattle.descriptor.specs.declared.validating.Validated.{Validated}
 use Rattle.descriptor.specs.declared.validating.Validated.the-variants.{Numbers, Refused}
 use Rattle.descriptor.specs.declared.validating.Validation.{Validation}
+use Rattle.descriptor.specs.declared.validating.ValidatedCase.{ValidatedCase}
+use Rattle.descriptor.specs.declared.numbers.DescriptorNumbers.{DescriptorNumbers}
 use Rattle.descriptor.specs.declared.extensions.Extension.{Extension}
 use Rattle.descriptor.specs.FirstRecord.{numbersOf, addressesOf, aexOf, growthIn}
 use Rattle.descriptor.specs.Rules.{fileRefusal}
@@ -26,10 +28,26 @@ validationOf file =
     let d = numbersOf file in
     cond (eqb n 0) (record { refusal = 0; numbers = Numbers d; addresses = addressesOf file (d .nex) }) (noValidation n)
 
--- 01's number for each case of the validated numbers
-abbrev pub numberOf : Validated → ℕ
-numberOf (Numbers d) = 0
-numberOf (Refused n) = n
+-- numbers that are all zero
+abbrev pub noNumbers : DescriptorNumbers
+noNumbers = record {
+  reclen = 0;
+  kind = 0;
+  vind = 0;
+  lind = 0;
+  flags = 0;
+  xnext = record { 0 = 0 };
+  nextrec = record { 0 = 0 };
+  nextword = record { 0 = 0 };
+  lex1 = 0;
+  nex = 0;
+  gex = 0;
+}
+
+-- 01's number and values for each case of a validation: 0 and the numbers, or the refusal and zeros
+abbrev pub validatedCase : Validated → ValidatedCase
+validatedCase (Numbers d) = record { refusal = 0; numbers = d }
+validatedCase (Refused n) = record { refusal = n; numbers = noNumbers }
 
 -- a refused extension: the number, and zeros
 abbrev pub noExtension : ℕ → Extension

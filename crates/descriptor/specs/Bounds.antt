@@ -9,7 +9,8 @@ use Rattle.geometry.specs.Units.{entriesBefore}
 use Rattle.geometry.specs.Growth.{overOf}
 use Rattle.descriptor.specs.declared.numbers.DescriptorNumbers.{DescriptorNumbers}
 use Rattle.descriptor.specs.FirstRecord.{growthIn, freeOf}
-use Rattle.descriptor.specs.Rules.{entriesFit, areasStart, areasEnd}
+use Rattle.descriptor.specs.Areas.{areasStart, areasEnd}
+use Rattle.descriptor.specs.Rules.{entriesFit}
 
 -- rules 3 to 8: the settings and nex are within their limits
 pub record Settled (d : DescriptorNumbers) : Type 0 where

@@ -1,6 +1,7 @@
--- What the contracts of `descriptor` cite, in the order of 01: tables of rules in general, the first record's fields, its rules, the answers; and the bounds that the code asks.
+-- What the contracts of `descriptor` cite, in the order of 01: tables of rules in general, the first record's fields, the index areas, the rules, the answers; and the bounds that the code asks.
 pub mod Refusal
 pub mod FirstRecord
+pub mod Areas
 pub mod Rules
 pub mod Answers
 pub mod Bounds

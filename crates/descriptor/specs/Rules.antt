@@ -14,27 +14,14 @@ use Rattle.geometry.specs.Growth.{capacityOf, totalOf, overOf}
 use Rattle.geometry.specs.Area.{areaRecords}
 use Rattle.descriptor.specs.declared.numbers.DescriptorNumbers.{DescriptorNumbers}
 use Rattle.descriptor.specs.Refusal.{Rule, row, refusalIn}
-use Rattle.descriptor.specs.FirstRecord.{codeOf, fileCode, numbersOf, addressesOf, aexOf, mexOf, growthIn, freeOf}
+use Rattle.layout.specs.FirstRecordWords.{fileCode}
+use Rattle.descriptor.specs.FirstRecord.{fileCodeOf, numbersOf, addressesOf, mexOf, growthIn, freeOf}
+use Rattle.descriptor.specs.Areas.{areasStart, areasEnd}
 
 -- n entries fit nex extensions: both are 0, or n is at most the first nex capacities together and more than the first nex - 1 together
 unfoldable pub entriesFit : Growth → ℕ → ℕ → Bool
 entriesFit g zero n = eqb n 0
 entriesFit g (suc k) n = leb n (totalOf g (suc k)) && ltb (totalOf g k) n
-
--- the record after area k; record 2 is the first that an area may have
-unfoldable pub areaAfter : DescriptorNumbers → List RecordNumber → ℕ → ℕ
-areaAfter d addresses zero = 2
-areaAfter d addresses (suc k) = aexOf addresses (suc k) .0 + areaRecords (capacityOf (growthIn d) (suc k)) (d .lind) (d .reclen)
-
--- the first k areas start at record 2 or later, each at or after the end of the one before
-unfoldable pub areasStart : DescriptorNumbers → List RecordNumber → ℕ → Bool
-areasStart d addresses zero = true
-areasStart d addresses (suc k) =
-    areasStart d addresses k && atLeast (areaAfter d addresses k) (signedOf integer8 (aexOf addresses (suc k) .0))
-
--- the last area ends at or before the next free position
-unfoldable pub areasEnd : DescriptorNumbers → List RecordNumber → Bool
-areasEnd d addresses = leb (positionOf (d .reclen) (record { 0 = areaAfter d addresses (d .nex) }) (record { 0 = 1 })) (freeOf d)
 
 -- rules 3 to 8: the settings, over the count of bytes lent
 abbrev pub settingRules : ℕ → DescriptorNumbers → List Rule
@@ -75,7 +62,7 @@ fillingRefusal bytes d addresses = refusalIn (fillingRules bytes d addresses)
 abbrev pub fileRules : List ℕ → DescriptorNumbers → List RecordNumber → List Rule
 fileRules file d addresses =
     row 1 (leb 64 (length file)) ∷
-    row 2 (sameBytes (codeOf file) fileCode) ∷
+    row 2 (sameBytes (fileCodeOf file) fileCode) ∷
     settingRules (length file) d ++ fillingRules (length file) d addresses
 
 -- creation's: 1, then 3 to 8

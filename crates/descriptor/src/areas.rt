@@ -15,7 +15,7 @@ ghost use mathlib.Core.Bool.{true};
 ghost use Prim.Native.Nat.{_^_, _<_};
 ghost use Rattle.outcome.specs.Outcome.{Answers};
 ghost use Rattle.descriptor.specs.FirstRecord.{freeOf};
-ghost use Rattle.descriptor.specs.Rules.{areasStart, areasEnd};
+ghost use Rattle.descriptor.specs.Areas.{areasStart, areasEnd};
 ghost use Rattle.descriptor.specs.Bounds.{Settled, Free};
 
 // Whether the areas start at record 2 or later, each at or after the end of the one before.
@@ -24,15 +24,16 @@ pub(crate) fn areas_start(d: DescriptorNumbers, addresses: [RecordNumber; 16]) -
     ensures { λ r. ⌜ Answers (areasStart d addresses (d .nex)) r ⌝ }
 {
     let growth = Growth::new(d.lex1, d.gex);
-    let mut after = 2;
+    let mut after = RecordNumber(2);
     let mut passed = 0;
     while passed < d.nex {
         let extension = ExtensionNumber(passed + 1);
         let first = aex(addresses, extension);
-        if !words::at_least8(first.0, after) {
+        if !words::at_least8(first.0, after.0) {
             return false;
         }
-        after = first.0 + area_records(capacity(growth, extension), d.lind, d.reclen);
+        let records = area_records(capacity(growth, extension), d.lind, d.reclen);
+        after = RecordNumber(first.0 + records);
         passed += 1;
     }
     true
@@ -43,6 +44,6 @@ pub(crate) fn areas_end(d: DescriptorNumbers, addresses: [RecordNumber; 16]) -> 
     requires { ⌜ Settled d × Free d × (freeOf d < 2 ^ 32) × (areasStart d addresses (d .nex) ≡ true) ⌝ }
     ensures { λ r. ⌜ Answers (areasEnd d addresses) r ⌝ }
 {
-    let after = RecordNumber(area_after(d, addresses, d.nex));
+    let after = area_after(d, addresses, d.nex);
     position_within(d.reclen, after, WordNumber(1), free_position(d))
 }

@@ -12,7 +12,7 @@ ghost use mathlib.Core.Bool.{true};
 ghost use Prim.Native.Nat.{_≤_};
 ghost use Rattle.outcome.specs.Outcome.{Answers};
 ghost use Rattle.descriptor.specs.FirstRecord.{mexOf, aexOf, freeOf};
-ghost use Rattle.descriptor.specs.Rules.{areaAfter, areasStart};
+ghost use Rattle.descriptor.specs.Areas.{areaAfter, areasStart};
 ghost use Rattle.descriptor.specs.Bounds.{Settled, Free};
 
 // The most extensions that a first record has room for.
@@ -37,13 +37,13 @@ pub fn aex(addresses: [RecordNumber; 16], extension: ExtensionNumber) -> RecordN
     addresses[index]
 }
 
-// The number of the record after the area of the last of the first `count` extensions.
-pub fn area_after(d: DescriptorNumbers, addresses: [RecordNumber; 16], count: u64) -> u64
+// The record after the area of the last of the first `count` extensions.
+pub fn area_after(d: DescriptorNumbers, addresses: [RecordNumber; 16], count: u64) -> RecordNumber
     requires { ⌜ Settled d × (count ≤ d .nex) × (areasStart d addresses (d .nex) ≡ true) ⌝ }
     ensures { λ r. ⌜ Answers (areaAfter d addresses count) r ⌝ }
 {
     if count == 0 {
-        return 2;
+        return RecordNumber(2);
     }
     let extension = ExtensionNumber(count);
     let records = area_records(
@@ -51,7 +51,7 @@ pub fn area_after(d: DescriptorNumbers, addresses: [RecordNumber; 16], count: u6
         d.lind,
         d.reclen,
     );
-    aex(addresses, extension).0 + records
+    RecordNumber(aex(addresses, extension).0 + records)
 }
 
 // The next free position.

@@ -3,6 +3,7 @@
 // A file is a lent slice of bytes, of any content and any length. `validate` gives the descriptor's
 // numbers or the number of the first rule that the file breaks (1 to 11); it reads the first record
 // alone. The functions of `inner` are for the crates above, which have validated before they call.
+mod addresses;
 mod areas;
 mod extensions;
 pub mod inner;
@@ -16,6 +17,8 @@ pub use numbers::DescriptorNumbers;
 pub use numbers::Settings;
 pub use rules::setting_refusal;
 pub use validating::Validated;
+pub use validating::ValidatedCase;
 pub use validating::Validation;
 pub use validating::refusal_of;
 pub use validating::validate;
+pub use validating::validated_case;

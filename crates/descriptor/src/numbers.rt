@@ -1,13 +1,13 @@
 // The numbers of a first record, read from a file or made for a new one.
 use geometry::EntryNumber;
-use geometry::ExtensionNumber;
 use geometry::RecordNumber;
 use geometry::WordNumber;
 use geometry::first_record_offset;
+use layout::first_record;
 ghost use Prim.Native.Nat.{_+_, _*_, _≤_, _<_};
 ghost use lib.ListN.{length};
 ghost use Rattle.outcome.specs.Outcome.{Answers};
-ghost use Rattle.descriptor.specs.FirstRecord.{field4, field8, numbersOf, createdOf, addressesOf};
+ghost use Rattle.descriptor.specs.FirstRecord.{field4, field8, numbersOf, createdOf};
 
 // What a caller chooses for a new file.
 pub struct Settings {
@@ -68,19 +68,19 @@ impl DescriptorNumbers {
 }
 
 // The bits of the Integer*4 at a word of the first record.
-fn field4_at(file: &[u8], word: u64) -> u64
-    requires { ⌜ (1 ≤ word) × (word ≤ 4096) × (4 * word ≤ length (now file)) ⌝ }
+fn field4_at(file: &[u8], word: WordNumber) -> u64
+    requires { ⌜ (1 ≤ word .0) × (word .0 ≤ 4096) × (4 * word .0 ≤ length (now file)) ⌝ }
     ensures { λ r. ⌜ Answers (field4 (now (file .entry)) word) r ⌝ }
 {
-    words::u32_at(file, first_record_offset(WordNumber(word))) as u64
+    words::u32_at(file, first_record_offset(word)) as u64
 }
 
 // The bits of the Integer*8 at a word of the first record and the next.
-fn field8_at(file: &[u8], word: u64) -> u64
-    requires { ⌜ (1 ≤ word) × (word ≤ 4096) × (4 * (word + 1) ≤ length (now file)) ⌝ }
+pub(crate) fn field8_at(file: &[u8], word: WordNumber) -> u64
+    requires { ⌜ (1 ≤ word .0) × (word .0 ≤ 4096) × (4 * (word .0 + 1) ≤ length (now file)) ⌝ }
     ensures { λ r. ⌜ Answers (field8 (now (file .entry)) word) r ⌝ }
 {
-    words::u64_at(file, first_record_offset(WordNumber(word)))
+    words::u64_at(file, first_record_offset(word))
 }
 
 // The numbers as stored in a file.
@@ -89,31 +89,16 @@ pub(crate) fn numbers_of(file: &[u8]) -> DescriptorNumbers
     ensures { λ r. ⌜ Answers (numbersOf (now (file .entry))) r ⌝ }
 {
     DescriptorNumbers {
-        reclen: field4_at(file, 2),
-        kind: field4_at(file, 3),
-        vind: field4_at(file, 4),
-        lind: field4_at(file, 5),
-        flags: field4_at(file, 6),
-        xnext: EntryNumber(field8_at(file, 7)),
-        nextrec: RecordNumber(field8_at(file, 9)),
-        nextword: WordNumber(field4_at(file, 11)),
-        lex1: field4_at(file, 12),
-        nex: field4_at(file, 13),
-        gex: field4_at(file, 14),
+        reclen: field4_at(file, first_record::RECLEN),
+        kind: field4_at(file, first_record::KIND),
+        vind: field4_at(file, first_record::VIND),
+        lind: field4_at(file, first_record::LIND),
+        flags: field4_at(file, first_record::FLAGS),
+        xnext: EntryNumber(field8_at(file, first_record::XNEXT)),
+        nextrec: RecordNumber(field8_at(file, first_record::NEXTREC)),
+        nextword: WordNumber(field4_at(file, first_record::NEXTWORD)),
+        lex1: field4_at(file, first_record::LEX1),
+        nex: field4_at(file, first_record::NEX),
+        gex: field4_at(file, first_record::GEX),
     }
-}
-
-// The addresses of the first `nex` extensions, in 16 places, the others zero.
-pub(crate) fn addresses_of(file: &[u8], nex: u64) -> [RecordNumber; 16]
-    requires { ⌜ (nex ≤ 16) × (4 * (14 + 2 * nex) ≤ length (now file)) ⌝ }
-    ensures { λ r. ⌜ Answers (addressesOf (now (file .entry)) nex) r ⌝ }
-{
-    let mut table = [RecordNumber(0); 16];
-    let mut filled = 0;
-    while filled < nex {
-        let address = RecordNumber(field8_at(file, 15 + 2 * filled));
-        table[filled as usize] = address;
-        filled += 1;
-    }
-    table
 }

@@ -5,33 +5,35 @@ use super::inner::mex;
 use super::numbers::DescriptorNumbers;
 use geometry::Growth;
 use geometry::RecordNumber;
-use geometry::WordNumber;
 use geometry::byte_offset;
 use geometry::entries_before;
 use geometry::first_record_offset;
 use geometry::position_within;
 use geometry::total;
+use layout::first_record;
 ghost use Prim.Native.Nat.{_≤_};
 ghost use lib.ListN.{length};
 ghost use Rattle.outcome.specs.Outcome.{Answers};
 ghost use Rattle.words.specs.Code.{sameBytes};
 ghost use Rattle.geometry.specs.Growth.{Growing};
-ghost use Rattle.descriptor.specs.FirstRecord.{codeOf, fileCode};
+ghost use Rattle.layout.specs.FirstRecordWords.{fileCode};
+ghost use Rattle.descriptor.specs.FirstRecord.{fileCodeOf};
 ghost use Rattle.descriptor.specs.Rules.{entriesFit, settingRefusal, fillingRefusal};
 ghost use Rattle.descriptor.specs.Bounds.{Settled, Lent};
 
 // Whether the file begins with the code.
 pub(crate) fn code_holds(file: &[u8]) -> bool
     requires { ⌜ 64 ≤ length (now file) ⌝ }
-    ensures { λ r. ⌜ Answers (sameBytes (codeOf (now (file .entry))) fileCode) r ⌝ }
+    ensures { λ r. ⌜ Answers (sameBytes (fileCodeOf (now (file .entry))) fileCode) r ⌝ }
 {
+    let code = first_record::FILE_CODE;
     words::code_at(
         file,
-        first_record_offset(WordNumber(1)),
-        0x32,
-        0x41,
-        0x20,
-        0x20,
+        first_record_offset(first_record::CODE),
+        code[0],
+        code[1],
+        code[2],
+        code[3],
     )
 }
 

@@ -1,13 +1,15 @@
 // Validating a file's descriptor.
+use super::addresses::addresses_of;
 use super::numbers::DescriptorNumbers;
-use super::numbers::addresses_of;
 use super::numbers::numbers_of;
 use super::rules::code_holds;
 use super::rules::filling_refusal;
 use super::rules::setting_refusal;
+use geometry::EntryNumber;
 use geometry::RecordNumber;
+use geometry::WordNumber;
 ghost use Rattle.outcome.specs.Outcome.{Answers};
-ghost use Rattle.descriptor.specs.Answers.{validationOf, noValidation, numberOf};
+ghost use Rattle.descriptor.specs.Answers.{validationOf, noValidation, noNumbers, validatedCase};
 
 // The case of a validation: the numbers of an admitted file, or the refusal.
 pub enum Validated {
@@ -21,6 +23,12 @@ pub struct Validation {
     pub refusal: u32,
     pub numbers: Validated,
     pub addresses: [RecordNumber; 16],
+}
+
+// What a case says: 01's number, 0 for numbers, and 01's values, zeros for a refusal.
+pub struct ValidatedCase {
+    pub refusal: u32,
+    pub numbers: DescriptorNumbers,
 }
 
 // A validation with a refusal.
@@ -62,12 +70,44 @@ pub fn validate(file: &[u8]) -> Validation
     }
 }
 
-// The refusal of a case, 0 for numbers.
-pub fn refusal_of(case: Validated) -> u32
-    ensures { λ r. ⌜ Answers (numberOf case) r ⌝ }
+// Numbers that are all zero.
+fn no_numbers() -> DescriptorNumbers
+    ensures { λ r. ⌜ Answers noNumbers r ⌝ }
+{
+    DescriptorNumbers {
+        reclen: 0,
+        kind: 0,
+        vind: 0,
+        lind: 0,
+        flags: 0,
+        xnext: EntryNumber(0),
+        nextrec: RecordNumber(0),
+        nextword: WordNumber(0),
+        lex1: 0,
+        nex: 0,
+        gex: 0,
+    }
+}
+
+// The number and the values of a case.
+pub fn validated_case(case: Validated) -> ValidatedCase
+    ensures { λ r. ⌜ Answers (validatedCase case) r ⌝ }
 {
     match case {
-        Validated::Numbers(_) => 0,
-        Validated::Refused(n) => n,
+        Validated::Numbers(numbers) => ValidatedCase {
+            refusal: 0,
+            numbers,
+        },
+        Validated::Refused(refusal) => ValidatedCase {
+            refusal,
+            numbers: no_numbers(),
+        },
     }
+}
+
+// The number of a case alone.
+pub fn refusal_of(case: Validated) -> u32
+    ensures { λ r. ⌜ Answers (validatedCase case .refusal) r ⌝ }
+{
+    validated_case(case).refusal
 }

@@ -20,10 +20,10 @@ use Rattle.descriptor.specs.declared.validating.Validated.the-variants.{Numbers
 use Rattle.descriptor.specs.declared.validating.Validation.{Validation}
 use Rattle.descriptor.specs.Bounds.{Admitted}
 use Rattle.descriptor.specs.Rules.{fileRefusal}
-use Rattle.descriptor.specs.Answers.{validationOf, numberOf}
+use Rattle.descriptor.specs.Answers.{validationOf, validatedCase}
 use Rattle.descriptor.proofs.Answered.{told}
 use Rattle.entry.specs.declared.contents.Piece.{Piece}
-use Rattle.entry.specs.declared.opening.Entered.{Entered}
+use Rattle.entry.specs.declared.entered.Entered.{Entered}
 use Rattle.entry.specs.declared.answers.Open.the-variants as answers
 use Rattle.entry.specs.declared.answers.PartPlace.{PartPlace}
 use Rattle.entry.specs.EntryDescriptor.{sectionOf}
@@ -72,9 +72,11 @@ none-inside bytes n = omega arith
 
 -- a piece that passed the rules: where it stands, that its end fits, and that it lies within the file
 module _ (file : List ℕ) (d : DescriptorNumbers) (e : EntryNumber) (x : Entered) (p : Piece) (k : Known file d e x) (h : Placed (x .nsec) (x .nword) p) where
+  -- its address is in range
   pub piece-stands : (1 ≤ p .address .0) × (x .start + p .address .0 < 2 ^ 64)
   piece-stands = omega arith
 
+  -- its end fits
   pub piece-fits : entryPositionOf (x .start) (p .address) + p .words < 2 ^ 32
   piece-fits = omega arith
 
@@ -83,6 +85,7 @@ module _ (file : List ℕ) (d : DescriptorNumbers) (e : EntryNumber) (x : Entere
 
 -- the slot of an entry that opens, and so its index words
 module _ (file : List ℕ) (d : DescriptorNumbers) (addresses : List RecordNumber) (e : EntryNumber) (x : Entered) (a : Admitted (length file) d addresses) (k : Known file d e x) where
+  -- the slot ends within the file
   pub slot-ends : 4 * (slotPositionOf d addresses e + d .lind) ≤ length file
   slot-ends =
       let inside = slot-inside (length file) d addresses a e (k .number-low) (k .number-high) in
@@ -106,11 +109,11 @@ module _ (file : List ℕ) (d : DescriptorNumbers) (addresses : List RecordNumbe
       either (length file) (eqb (x .refusal) 0) p (noPart (x .refusal)) (λ q. f (known file d addresses e x a refl (eqb-true (x .refusal) 0 q)))
       (λ q. none-inside (length file) (x .refusal))
 
-  pub index-inside : Inside (length file) (indexPart file d addresses e)
+  index-inside : Inside (length file) (indexPart file d addresses e)
   unfolding indexPart
   index-inside = entered _ (words-inside file d addresses e x a)
 
-  pub section-inside : (identifier : ℤ) → Inside (length file) (sectionPart file d addresses e identifier)
+  section-inside : (identifier : ℤ) → Inside (length file) (sectionPart file d addresses e identifier)
   unfolding sectionPart
   section-inside identifier =
       let i = sectionNamed file (x .start) identifier 0 (x .nsec) in
@@ -119,7 +122,7 @@ module _ (file : List ℕ) (d : DescriptorNumbers) (addresses : List RecordNumbe
       (λ q. piece-inside file d e x p k (section-placed file (x .start) (x .nsec) (x .nword) i (x .nsec) (ltb-true i (x .nsec) q) (k .sections-within)))
       (λ q. none-inside (length file) 20))
 
-  pub data-inside : Inside (length file) (dataPart file d addresses e)
+  data-inside : Inside (length file) (dataPart file d addresses e)
   unfolding dataPart
   data-inside =
       let p = x .array in
@@ -140,23 +143,27 @@ module _ (file : List ℕ) (f : List RecordNumber → DescriptorNumbers → Part
       by (Numbers d) q = inside (validationOf file .addresses) d (told file (validationOf file) d refl q .admitted)
       by (Refused n) q = none-inside (length file) n
 
-  -- it is refused with the file, and else made of the file's numbers
-  pub whole-refused : {v : Validation} {n r : ℕ} {p : PartPlace} → v ≡ validationOf file → v .numbers ≡ Refused n → r ≡ numberOf (v .numbers) → p ≡ noPart r → p ≡ whole
+  -- it is refused with the file
+  pub whole-refused : {v : Validation} {n r : ℕ} {p : PartPlace} → v ≡ validationOf file → v .numbers ≡ Refused n → r ≡ validatedCase (v .numbers) .refusal → p ≡ noPart r → p ≡ whole
   unfolding partIn
   whole-refused e q t h = h ∙ rw (t, ← e, q)
 
+  -- and else made of the file's numbers
   pub whole-numbers : {v : Validation} {d : DescriptorNumbers} {p : PartPlace} → v ≡ validationOf file → v .numbers ≡ Numbers d → p ≡ f (v .addresses) d → p ≡ whole
   unfolding partIn
   whole-numbers e q h = h ∙ rw (← e, q)
 
 -- the three parts of a file
 module _ (file : List ℕ) (e : EntryNumber) where
+  -- the index words lie within the file
   pub index-words-inside : Inside (length file) (indexWordsOf file e)
   index-words-inside = whole-inside file (λ addresses d. indexPart file d addresses e) (λ addresses d. index-inside file d addresses e)
 
+  -- so does a section
   pub section-words-inside : (identifier : ℤ) → Inside (length file) (sectionWordsOf file e identifier)
   section-words-inside identifier = whole-inside file (λ addresses d. sectionPart file d addresses e identifier) (λ addresses d a. section-inside file d addresses e a identifier)
 
+  -- and the data
   pub data-words-inside : Inside (length file) (dataWordsOf file e)
   data-words-inside = whole-inside file (λ addresses d. dataPart file d addresses e) (λ addresses d. data-inside file d addresses e)
 
@@ -177,12 +184,14 @@ refused-some file n q = by (eqb (fileRefusal file) 0) refl
     by true t = let z = rw t at q in cc
     by false t = let z = rw t at q in cc
 
--- an open, by the validation's case: refused with the file, and else what was entered
+-- an open, by the validation's case
 module _ (file : List ℕ) (e : EntryNumber) where
+  -- a file that is refused opens no entry
   pub open-refused : {v : Validation} {n : ℕ} → v ≡ validationOf file → v .numbers ≡ Refused n → openOf file e ≡ record { answer = answers.Refused n; sections = noSections }
   unfolding openOf openedAs enteredIn
   open-refused {v} {n} q t = let some = refused-some file n (rw q at t) in rw (← q, t, some)
 
+  -- and else the answer is made of what was entered
   pub open-numbers : {v : Validation} {d : DescriptorNumbers} → v ≡ validationOf file → v .numbers ≡ Numbers d → openOf file e ≡ openedAs file (enteredOf file d (v .addresses) e)
   unfolding openOf enteredIn
   open-numbers q t = rw (← q, t)

@@ -3,4 +3,3 @@ pub mod Pieces
 pub mod SectionTables
 pub mod Entering
 pub mod Handing
-pub mod Agreeing

@@ -1,4 +1,4 @@
--- Laws of the three tables and of the section that an identifier names. Assumes nothing.
+-- Laws of the section that an identifier names. Assumes nothing.
 use mathlib.Core.Path.{_≡_, refl, sym, ap}
 use mathlib.Core.Bool.{Bool, true, false, and-eq-true-iff}
 use mathlib.Core.List.{List}
@@ -8,24 +8,8 @@ use borrow.Author.Count.{below-more, below-none}
 use borrow.Author.Tests.{leb-true, le-leb}
 use lib.Dec.{leb}
 use lib.IntN.{ℤ, pos, negsuc, ℤ-discrete}
-use lib.ListN.{length}
-use Rattle.words.proofs.Table.{length-places}
 use Rattle.entry.specs.EntryDescriptor.{identifierAt}
-use Rattle.entry.specs.Tables.{identifiersOf, lengthsOf, addressesOf, sameInteger, sectionNamed}
-
--- each table has 64 places
-module _ (file : List ℕ) (start nsec : ℕ) where
-  pub length-identifiers : length (identifiersOf file start nsec) ≡ 64
-  unfolding identifiersOf
-  length-identifiers = length-places 64 nsec _ _
-
-  pub length-lengths : length (lengthsOf file start nsec) ≡ 64
-  unfolding lengthsOf
-  length-lengths = length-places 64 nsec _ _
-
-  pub length-addresses : length (addressesOf file start nsec) ≡ 64
-  unfolding addressesOf
-  length-addresses = length-places 64 nsec _ _
+use Rattle.entry.specs.Tables.{sameInteger, sectionNamed}
 
 equal : (a b : ℕ) → sameInteger (pos a) (pos b) ≡ true → a ≡ b
 unfolding sameInteger
@@ -33,8 +17,7 @@ equal a b e =
     let both = and-eq-true-iff (leb a b) (leb b a) .0 e in
     omega (arith, leb-true a b (both .0), leb-true b a (both .1))
 
--- the test of two integers passes where they are equal, and nowhere else
-pub same-true : (x y : ℤ) → sameInteger x y ≡ true → x ≡ y
+same-true : (x y : ℤ) → sameInteger x y ≡ true → x ≡ y
 unfolding sameInteger
 same-true (pos a) (pos b) e = ap pos (equal a b e)
 same-true (pos a) (negsuc b) e = cc
@@ -46,9 +29,11 @@ unfolding sameInteger
 same-self (pos a) = rw (le-leb a a (omega arith))
 same-self (negsuc a) = rw (le-leb a a (omega arith))
 
+-- equal integers pass the test
 pub same-equal : (x y : ℤ) → x ≡ y → sameInteger x y ≡ true
 same-equal x y e = rw e (same-self y)
 
+-- and others do not
 pub same-other : (x y : ℤ) → (x ≡ y → ⊥) → sameInteger x y ≡ false
 same-other x y d = by (sameInteger x y) refl
   where
@@ -77,11 +62,12 @@ module _ (file : List ℕ) (start nsec : ℕ) (identifier : ℤ) where
   pub named : Named file start nsec identifier (sectionNamed file start identifier 0 nsec)
   named = named-from 0 nsec (omega arith) (below-none _)
 
-  -- the search from section i on ends there, or goes on with the next
+  -- the search from section i on ends there, where it has the identifier
   pub named-here : (i : ℕ) → i < nsec → identifierAt file start i ≡ identifier → sectionNamed file start identifier i (nsec - i) ≡ i
   unfolding sectionNamed
   named-here i h e = let q : nsec - i ≡ suc (nsec - (i + 1)) = omega arith in rw (q, same-equal _ _ e)
 
+  -- and goes on with the next where that one has another
   pub named-later : (i : ℕ) → i < nsec → (identifierAt file start i ≡ identifier → ⊥)
       → sectionNamed file start identifier i (nsec - i) ≡ sectionNamed file start identifier (i + 1) (nsec - (i + 1))
   unfolding sectionNamed

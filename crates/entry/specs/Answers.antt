@@ -12,16 +12,18 @@ use Rattle.words.specs.Word.{integer8, signedOf}
 use Rattle.geometry.specs.declared.units.RecordNumber.{RecordNumber}
 use Rattle.geometry.specs.declared.units.EntryNumber.{EntryNumber}
 use Rattle.geometry.specs.Units.{offsetOf, entryPositionOf}
+use Rattle.layout.specs.EntryWords.{sectionsMax}
 use Rattle.descriptor.specs.declared.numbers.DescriptorNumbers.{DescriptorNumbers}
 use Rattle.descriptor.specs.declared.validating.Validated.{Validated}
 use Rattle.descriptor.specs.declared.validating.Validated.the-variants as validated
 use Rattle.descriptor.specs.Answers.{validationOf}
 use Rattle.entry.specs.declared.contents.Piece.{Piece}
 use Rattle.entry.specs.declared.tables.Sections.{Sections}
-use Rattle.entry.specs.declared.opening.Entered.{Entered}
+use Rattle.entry.specs.declared.entered.Entered.{Entered}
 use Rattle.entry.specs.declared.answers.DataPlace.{DataPlace}
 use Rattle.entry.specs.declared.answers.Open.{Open}
 use Rattle.entry.specs.declared.answers.Open.the-variants.{Numbers, Refused}
+use Rattle.entry.specs.declared.answers.OpenCase.{OpenCase}
 use Rattle.entry.specs.declared.answers.Opened.{Opened}
 use Rattle.entry.specs.declared.answers.PartPlace.{PartPlace}
 use Rattle.entry.specs.EntryDescriptor.{sectionOf}
@@ -42,9 +44,9 @@ dataPlaceOf p = record { adata = record { 0 = signedOf integer8 (p .address .0) 
 -- tables with nothing in them
 abbrev pub noSections : Sections
 noSections = record {
-  identifiers = replicate 64 (pos 0);
-  lengths = replicate 64 0;
-  addresses = replicate 64 (record { 0 = 0 });
+  identifiers = replicate sectionsMax (pos 0);
+  lengths = replicate sectionsMax 0;
+  addresses = replicate sectionsMax (record { 0 = 0 });
 }
 
 -- the answer: the opened entry's numbers with its tables, or the refusal with empty tables
@@ -60,10 +62,24 @@ openedAs file x =
 unfoldable pub openOf : List ℕ → EntryNumber → Opened
 openOf file e = openedAs file (enteredIn file (validationOf file .numbers) (validationOf file .addresses) e)
 
--- 01's number for each case of an open
-abbrev pub numberOf : Open → ℕ
-numberOf (Numbers place version nsec nword array) = 0
-numberOf (Refused n) = n
+-- 01's number and values for each case of an open: 0 and the numbers, or the refusal and zeros
+abbrev pub openCase : Open → OpenCase
+openCase (Numbers place version nsec nword array) = record {
+  refusal = 0;
+  place = place;
+  version = version;
+  nsec = nsec;
+  nword = nword;
+  array = array;
+}
+openCase (Refused n) = record {
+  refusal = n;
+  place = record { «record» = record { 0 = 0 }; word = record { 0 = 0 } };
+  version = pos 0;
+  nsec = 0;
+  nword = 0;
+  array = record { adata = record { 0 = pos 0 }; ldata = 0 };
+}
 
 -- ---- parts
 

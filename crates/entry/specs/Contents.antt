@@ -1,20 +1,17 @@
 -- What an entry holds: its sections and its data, each a piece of it. When a piece lies within the entry, and when two share no word.
-use Prim.Native.Nat.{ℕ, zero, suc, _+_, _*_}
+use Prim.Native.Nat.{ℕ, zero, suc, _+_}
 use mathlib.Core.Bool.{Bool, true, _&&_, _||_}
 use mathlib.Core.List.{List}
 use lib.Dec.{leb, eqb}
 use Rattle.words.specs.Word.{integer8, signedOf}
 use Rattle.words.specs.Range.{atLeast}
+use Rattle.layout.specs.EntryWords.{firstContent}
 use Rattle.entry.specs.declared.contents.Piece.{Piece}
 use Rattle.entry.specs.EntryDescriptor.{sectionOf}
 
--- the first word that content may have: 12 + 5 × nsec
-abbrev pub firstContent : ℕ → ℕ
-firstContent nsec = 12 + 5 * nsec
-
 -- a piece lies within the words 12 + 5 × nsec to nword
 unfoldable pub pieceWithin : ℕ → ℕ → Piece → Bool
-pieceWithin nsec nword p = atLeast (firstContent nsec) (signedOf integer8 (p .address .0)) && leb (p .address .0 + p .words) (nword + 1)
+pieceWithin nsec nword p = atLeast (firstContent nsec .0) (signedOf integer8 (p .address .0)) && leb (p .address .0 + p .words) (nword + 1)
 
 -- data has no negative length, and lies within those words if there is any
 unfoldable pub dataWithin : ℕ → ℕ → Piece → Bool

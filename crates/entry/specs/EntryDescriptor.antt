@@ -1,64 +1,63 @@
--- The entry descriptor (01, "An entry"; the memo's Table 4): its fields as stored, by the numbers of their words.
+-- The entry descriptor (01, "An entry"; the memo's Table 4): its fields as stored.
 -- An entry is known by the position of its first word, start.
-use Prim.Native.Nat.{ℕ, _+_, _*_}
-use mathlib.Core.List.{List, [], _∷_}
+use Prim.Native.Nat.{ℕ}
+use mathlib.Core.List.{List}
 use lib.IntN.{ℤ}
 use Rattle.image.specs.Image.{part}
 use Rattle.words.specs.Word.{integer4, integer8, bitsAt, signedOf}
+use Rattle.geometry.specs.declared.units.EntryAddress.{EntryAddress}
 use Rattle.geometry.specs.Units.{entryPositionOf, offsetOf}
+use Rattle.layout.specs.EntryWords.{entryCodeWord, versionWord, nsecWord, nwordWord, adataWord, ldataWord, xnumWord, identifierWord, lengthWord, addressWord}
 use Rattle.entry.specs.declared.contents.Piece.{Piece}
 
--- where word a of the entry stands, in bytes
-abbrev pub wordOffset : ℕ → ℕ → ℕ
-wordOffset start a = offsetOf (entryPositionOf start (record { 0 = a }))
+-- where a word of the entry stands, in bytes
+abbrev pub wordOffset : ℕ → EntryAddress → ℕ
+wordOffset start a = offsetOf (entryPositionOf start a)
 
--- the bits of the Integer*4 at word a, and of the Integer*8 at words a and a + 1
-unfoldable pub word4 : List ℕ → ℕ → ℕ → ℕ
+-- the bits of the Integer*4 at a word, and of the Integer*8 at a word and the next
+unfoldable pub word4 : List ℕ → ℕ → EntryAddress → ℕ
 word4 file start a = bitsAt integer4 file (wordOffset start a)
 
-unfoldable pub word8 : List ℕ → ℕ → ℕ → ℕ
+unfoldable pub word8 : List ℕ → ℕ → EntryAddress → ℕ
 word8 file start a = bitsAt integer8 file (wordOffset start a)
 
--- word 1: the code, as four bytes
-unfoldable pub codeOf : List ℕ → ℕ → List ℕ
-codeOf file start = part file (wordOffset start 1) 4
+-- the code, as four bytes
+unfoldable pub entryCodeOf : List ℕ → ℕ → List ℕ
+entryCodeOf file start = part file (wordOffset start entryCodeWord) 4
 
-abbrev pub entryCode : List ℕ
-entryCode = 0x32 ∷ 0x20 ∷ 0x20 ∷ 0x20 ∷ []
-
--- words 2 to 11
+-- the numbers
 abbrev pub versionOf : List ℕ → ℕ → ℤ
-versionOf file start = signedOf integer4 (word4 file start 2)
+versionOf file start = signedOf integer4 (word4 file start versionWord)
 
 abbrev pub nsecOf : List ℕ → ℕ → ℕ
-nsecOf file start = word4 file start 3
+nsecOf file start = word4 file start nsecWord
 
 abbrev pub nwordOf : List ℕ → ℕ → ℕ
-nwordOf file start = word8 file start 4
+nwordOf file start = word8 file start nwordWord
 
-abbrev pub adataOf : List ℕ → ℕ → ℕ
-adataOf file start = word8 file start 6
+abbrev pub adataOf : List ℕ → ℕ → EntryAddress
+adataOf file start = record { 0 = word8 file start adataWord }
 
 abbrev pub ldataOf : List ℕ → ℕ → ℕ
-ldataOf file start = word8 file start 8
+ldataOf file start = word8 file start ldataWord
 
 abbrev pub xnumOf : List ℕ → ℕ → ℕ
-xnumOf file start = word8 file start 10
+xnumOf file start = word8 file start xnumWord
 
--- from word 12: nsec identifiers, nsec lengths, nsec addresses. Section i, counted from 0, has the i-th of each
+-- the tables: section i, counted from 0, has the i-th of each
 abbrev pub identifierAt : List ℕ → ℕ → ℕ → ℤ
-identifierAt file start i = signedOf integer4 (word4 file start (12 + i))
+identifierAt file start i = signedOf integer4 (word4 file start (identifierWord i))
 
 abbrev pub lengthAt : List ℕ → ℕ → ℕ → ℕ → ℕ
-lengthAt file start nsec i = word8 file start (12 + nsec + 2 * i)
+lengthAt file start nsec i = word8 file start (lengthWord nsec i)
 
-abbrev pub addressAt : List ℕ → ℕ → ℕ → ℕ → ℕ
-addressAt file start nsec i = word8 file start (12 + 3 * nsec + 2 * i)
+abbrev pub addressAt : List ℕ → ℕ → ℕ → ℕ → EntryAddress
+addressAt file start nsec i = record { 0 = word8 file start (addressWord nsec i) }
 
 -- where section i stands in the entry, and how long it is, as stored
 unfoldable pub sectionOf : List ℕ → ℕ → ℕ → ℕ → Piece
-sectionOf file start nsec i = record { address = record { 0 = addressAt file start nsec i }; words = lengthAt file start nsec i }
+sectionOf file start nsec i = record { address = addressAt file start nsec i; words = lengthAt file start nsec i }
 
 -- the same of the data
 unfoldable pub dataOf : List ℕ → ℕ → Piece
-dataOf file start = record { address = record { 0 = adataOf file start }; words = ldataOf file start }
+dataOf file start = record { address = adataOf file start; words = ldataOf file start }

@@ -1,5 +1,5 @@
 -- Opening an entry by its number: where its index and the entry stand, and the rules 12 to 19 as tables in the order of 01.
-use Prim.Native.Nat.{ℕ, _+_, _*_}
+use Prim.Native.Nat.{ℕ, _+_}
 use mathlib.Core.Bool.{cond}
 use mathlib.Core.List.{List, [], _∷_, _++_}
 use lib.Dec.{leb, eqb}
@@ -12,12 +12,14 @@ use Rattle.geometry.specs.declared.units.EntryNumber.{EntryNumber}
 use Rattle.geometry.specs.declared.units.Place.{Place}
 use Rattle.geometry.specs.Units.{positionOf, offsetOf, entriesBefore}
 use Rattle.geometry.specs.Area.{slotOf}
+use Rattle.layout.specs.EntryWords.{headWords, descriptorWords, sectionsMax, entryCode}
 use Rattle.descriptor.specs.declared.numbers.DescriptorNumbers.{DescriptorNumbers}
 use Rattle.descriptor.specs.Refusal.{Rule, row, refusalIn}
 use Rattle.descriptor.specs.FirstRecord.{aexOf, growthIn, freeOf}
 use Rattle.entry.specs.declared.contents.Piece.{Piece}
-use Rattle.entry.specs.declared.opening.Entered.{Entered}
-use Rattle.entry.specs.EntryDescriptor.{codeOf, entryCode, versionOf, nsecOf, nwordOf, xnumOf, dataOf}
+use Rattle.entry.specs.declared.entered.Entered.{Entered}
+use Rattle.entry.specs.declared.inner.Extent.{Extent}
+use Rattle.entry.specs.EntryDescriptor.{entryCodeOf, versionOf, nsecOf, nwordOf, xnumOf, dataOf}
 use Rattle.entry.specs.Contents.{dataWithin, sectionsWithin, sectionsApart, dataApart}
 
 -- where the index of entry e stands: its slot in its extension's area
@@ -27,8 +29,8 @@ slotPositionOf d addresses e =
     positionOf (d .reclen) (aexOf addresses (s .extension .0)) (record { 0 = 1 }) + s .offset
 
 -- its first three words: the record (Integer*8) and the word (Integer*4) where the entry starts, as stored
-unfoldable pub placeOf : List ℕ → ℕ → Place
-placeOf file slot = record {
+unfoldable pub placeStored : List ℕ → ℕ → Place
+placeStored file slot = record {
   «record» = record { 0 = bitsAt integer8 file (offsetOf slot) };
   word = record { 0 = bitsAt integer4 file (offsetOf (slot + 2)) };
 }
@@ -49,15 +51,15 @@ abbrev pub startRules : DescriptorNumbers → Place → List Rule
 startRules d place =
     row 13 (atLeast 2 (signedOf integer8 (place .«record» .0))) ∷
     row 13 (within 1 (d .reclen) (signedOf integer4 (place .word .0))) ∷
-    row 13 (leb (startOf d place + 11) (freeOf d)) ∷
+    row 13 (leb (startOf d place + headWords) (freeOf d)) ∷
     []
 
 -- rules 14 to 16: the entry descriptor
 abbrev pub headRules : List ℕ → DescriptorNumbers → ℕ → EntryNumber → List Rule
 headRules file d start e =
-    row 14 (sameBytes (codeOf file start) entryCode) ∷
-    row 15 (within 0 64 (signedOf integer4 (nsecOf file start))) ∷
-    row 15 (atLeast (11 + 5 * nsecOf file start) (signedOf integer8 (nwordOf file start))) ∷
+    row 14 (sameBytes (entryCodeOf file start) entryCode) ∷
+    row 15 (within 0 sectionsMax (signedOf integer4 (nsecOf file start))) ∷
+    row 15 (atLeast (descriptorWords (nsecOf file start)) (signedOf integer8 (nwordOf file start))) ∷
     row 15 (leb (start + nwordOf file start) (freeOf d)) ∷
     row 16 (eqb (xnumOf file start) (e .0)) ∷
     []
@@ -90,7 +92,7 @@ entryRules file d e place =
     (startRules d place ++ (headRules file d start e ++ contentRules file start (nsecOf file start) (nwordOf file start) (dataOf file start)))
 
 unfoldable pub entryRefusal : List ℕ → DescriptorNumbers → List RecordNumber → EntryNumber → ℕ
-entryRefusal file d addresses e = refusalIn (entryRules file d e (placeOf file (slotPositionOf d addresses e)))
+entryRefusal file d addresses e = refusalIn (entryRules file d e (placeStored file (slotPositionOf d addresses e)))
 
 -- an entry that is refused: the number, and zeros
 abbrev pub notEntered : ℕ → Entered
@@ -120,4 +122,12 @@ enteredAt file d place = record {
 unfoldable pub enteredOf : List ℕ → DescriptorNumbers → List RecordNumber → EntryNumber → Entered
 enteredOf file d addresses e =
     let n = entryRefusal file d addresses e in
-    cond (eqb n 0) (enteredAt file d (placeOf file (slotPositionOf d addresses e))) (notEntered n)
+    cond (eqb n 0) (enteredAt file d (placeStored file (slotPositionOf d addresses e))) (notEntered n)
+
+-- the position behind an entry
+abbrev pub endOf : Entered → ℕ
+endOf x = x .start + x .nword
+
+-- where an entry that opens starts and ends
+abbrev pub extentOf : List ℕ → DescriptorNumbers → List RecordNumber → EntryNumber → Extent
+extentOf file d addresses e = record { start = enteredOf file d addresses e .start; end = endOf (enteredOf file d addresses e) }

@@ -6,24 +6,25 @@ use lib.IntN.{ℤ, pos}
 use lib.Signed.{leZ}
 use Rattle.words.specs.Table.{places}
 use Rattle.geometry.specs.declared.units.EntryAddress.{EntryAddress}
+use Rattle.layout.specs.EntryWords.{sectionsMax}
 use Rattle.entry.specs.declared.tables.Sections.{Sections}
 use Rattle.entry.specs.EntryDescriptor.{identifierAt, sectionOf}
 
 -- identifiers, lengths and addresses of nsec sections, zero in the places past nsec
-unfoldable pub identifiersOf : List ℕ → ℕ → ℕ → List ℤ
-identifiersOf file start nsec = places 64 nsec (identifierAt file start) (pos 0)
+unfoldable pub sectionIdentifiers : List ℕ → ℕ → ℕ → List ℤ
+sectionIdentifiers file start nsec = places sectionsMax nsec (identifierAt file start) (pos 0)
 
-unfoldable pub lengthsOf : List ℕ → ℕ → ℕ → List ℕ
-lengthsOf file start nsec = places 64 nsec (λ i. sectionOf file start nsec i .words) 0
+unfoldable pub sectionLengths : List ℕ → ℕ → ℕ → List ℕ
+sectionLengths file start nsec = places sectionsMax nsec (λ i. sectionOf file start nsec i .words) 0
 
-unfoldable pub addressesOf : List ℕ → ℕ → ℕ → List EntryAddress
-addressesOf file start nsec = places 64 nsec (λ i. sectionOf file start nsec i .address) (record { 0 = 0 })
+unfoldable pub sectionAddresses : List ℕ → ℕ → ℕ → List EntryAddress
+sectionAddresses file start nsec = places sectionsMax nsec (λ i. sectionOf file start nsec i .address) (record { 0 = 0 })
 
 unfoldable pub sectionsOf : List ℕ → ℕ → ℕ → Sections
 sectionsOf file start nsec = record {
-  identifiers = identifiersOf file start nsec;
-  lengths = lengthsOf file start nsec;
-  addresses = addressesOf file start nsec;
+  identifiers = sectionIdentifiers file start nsec;
+  lengths = sectionLengths file start nsec;
+  addresses = sectionAddresses file start nsec;
 }
 
 -- two integers are equal

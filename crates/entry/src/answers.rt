@@ -1,15 +1,10 @@
-// The answers of this crate's calls, and opening an entry.
-use super::inner::enter;
+// The answers of this crate's calls.
 use super::tables::Sections;
-use super::tables::section_tables;
-use descriptor::Validated;
-use descriptor::refusal_of;
-use descriptor::validate;
-use geometry::EntryAddress;
-use geometry::EntryNumber;
 use geometry::Place;
+use geometry::RecordNumber;
+use geometry::WordNumber;
 ghost use Rattle.outcome.specs.Outcome.{Answers};
-ghost use Rattle.entry.specs.Answers.{openOf, noSections};
+ghost use Rattle.entry.specs.Answers.{openCase};
 
 // The address of an entry's data as stored: the EntryAddress of its first word where there is data,
 // and anything, also a negative number, where there is none.
@@ -27,6 +22,16 @@ pub enum Open {
     Refused(u32),
 }
 
+// What a case says: 01's number, 0 for numbers, and 01's values, zeros for a refusal.
+pub struct OpenCase {
+    pub refusal: u32,
+    pub place: Place,
+    pub version: i32,
+    pub nsec: u64,
+    pub nword: u64,
+    pub array: DataPlace,
+}
+
 // The answer of `open_entry`: the case, and beside it the tables of the sections.
 pub struct Opened {
     pub answer: Open,
@@ -40,45 +45,32 @@ pub struct PartPlace {
     pub end: usize,
 }
 
-// Tables with nothing in them.
-fn no_sections() -> Sections
-    ensures { λ r. ⌜ Answers noSections r ⌝ }
+// The number and the values of a case.
+pub fn open_case(answer: Open) -> OpenCase
+    ensures { λ r. ⌜ Answers (openCase answer) r ⌝ }
 {
-    Sections {
-        identifiers: [0i32; 64],
-        lengths: [0u64; 64],
-        addresses: [EntryAddress(0); 64],
-    }
-}
-
-// Opens an entry by its number: its numbers and tables, or the first rule of 1 to 19 that is broken.
-pub fn open_entry(file: &[u8], number: EntryNumber) -> Opened
-    ensures { λ r. ⌜ Answers (openOf (now (file .entry)) number) r ⌝ }
-{
-    let validation = validate(file);
-    let case = validation.numbers;
-    let Validated::Numbers(d) = case else {
-        return Opened {
-            answer: Open::Refused(refusal_of(case)),
-            sections: no_sections(),
-        };
-    };
-    let addresses = validation.addresses;
-    let entered = enter(file, d, addresses, number);
-    if entered.refusal != 0 {
-        return Opened {
-            answer: Open::Refused(entered.refusal),
-            sections: no_sections(),
-        };
-    }
-    let place = entered.place;
-    let array = entered.array;
-    let stored = DataPlace {
-        adata: DataAddress(words::signed64(array.address.0)),
-        ldata: array.words,
-    };
-    Opened {
-        answer: Open::Numbers(place, entered.version, entered.nsec, entered.nword, stored),
-        sections: section_tables(file, entered.start, entered.nsec),
+    match answer {
+        Open::Numbers(place, version, nsec, nword, array) => OpenCase {
+            refusal: 0,
+            place,
+            version,
+            nsec,
+            nword,
+            array,
+        },
+        Open::Refused(refusal) => OpenCase {
+            refusal,
+            place: Place {
+                record: RecordNumber(0),
+                word: WordNumber(0),
+            },
+            version: 0,
+            nsec: 0,
+            nword: 0,
+            array: DataPlace {
+                adata: DataAddress(0),
+                ldata: 0,
+            },
+        },
     }
 }

@@ -5,6 +5,9 @@
 use geometry::EntryAddress;
 use geometry::byte_offset;
 use geometry::entry_position;
+use layout::entry_descriptor::address_word;
+use layout::entry_descriptor::first_content;
+use layout::entry_descriptor::length_word;
 ghost use mathlib.Core.Path.{_≡_};
 ghost use mathlib.Core.Bool.{true};
 ghost use Prim.Native.Nat.{_+_, _*_, _^_, _≤_, _<_};
@@ -21,25 +24,19 @@ pub struct Piece {
 }
 
 // The bits of the Integer*4 at a word of the entry.
-pub(crate) fn word4_at(file: &[u8], start: u64, address: u64) -> u64
-    requires { ⌜ (1 ≤ address) × (4 * (start + address) ≤ length (now file)) ⌝ }
+pub(crate) fn word4_at(file: &[u8], start: u64, address: EntryAddress) -> u64
+    requires { ⌜ (1 ≤ address .0) × (4 * (start + address .0) ≤ length (now file)) ⌝ }
     ensures { λ r. ⌜ Answers (word4 (now (file .entry)) start address) r ⌝ }
 {
-    words::u32_at(
-        file,
-        byte_offset(entry_position(start, EntryAddress(address))),
-    ) as u64
+    words::u32_at(file, byte_offset(entry_position(start, address))) as u64
 }
 
 // The bits of the Integer*8 at a word of the entry and the next.
-pub(crate) fn word8_at(file: &[u8], start: u64, address: u64) -> u64
-    requires { ⌜ (1 ≤ address) × (4 * (start + address + 1) ≤ length (now file)) ⌝ }
+pub(crate) fn word8_at(file: &[u8], start: u64, address: EntryAddress) -> u64
+    requires { ⌜ (1 ≤ address .0) × (4 * (start + address .0 + 1) ≤ length (now file)) ⌝ }
     ensures { λ r. ⌜ Answers (word8 (now (file .entry)) start address) r ⌝ }
 {
-    words::u64_at(
-        file,
-        byte_offset(entry_position(start, EntryAddress(address))),
-    )
+    words::u64_at(file, byte_offset(entry_position(start, address)))
 }
 
 // Section `i`, counted from 0.
@@ -48,8 +45,8 @@ pub(crate) fn section_at(file: &[u8], start: u64, nsec: u64, i: u64) -> Piece
     ensures { λ r. ⌜ Answers (sectionOf (now (file .entry)) start nsec i) r ⌝ }
 {
     Piece {
-        address: EntryAddress(word8_at(file, start, 12 + 3 * nsec + 2 * i)),
-        words: word8_at(file, start, 12 + nsec + 2 * i),
+        address: EntryAddress(word8_at(file, start, address_word(nsec, i))),
+        words: word8_at(file, start, length_word(nsec, i)),
     }
 }
 
@@ -58,7 +55,7 @@ pub(crate) fn piece_within(nsec: u64, nword: u64, piece: Piece) -> bool
     requires { ⌜ (nsec ≤ 64) × (nword < 2 ^ 32) × (piece .words < 2 ^ 63) ⌝ }
     ensures { λ r. ⌜ Answers (pieceWithin nsec nword piece) r ⌝ }
 {
-    if !words::at_least8(piece.address.0, 12 + 5 * nsec) {
+    if !words::at_least8(piece.address.0, first_content(nsec).0) {
         return false;
     }
     piece.address.0 + piece.words <= nword + 1

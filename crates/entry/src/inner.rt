@@ -4,18 +4,18 @@ use super::contents::Piece;
 use super::contents::section_at;
 use super::contents::word4_at;
 use super::contents::word8_at;
-use super::opening::Entered;
-use super::opening::content_refusal;
-use super::opening::head_refusal;
-use super::opening::place_stored;
-use super::opening::refused;
-use super::opening::start_refusal;
+use super::entered::Entered;
+use super::entered::refused;
+use super::rules::content_refusal;
+use super::rules::head_refusal;
+use super::rules::start_refusal;
 use super::tables::section_named;
 use descriptor::DescriptorNumbers;
 use descriptor::inner::aex;
 use geometry::EntryAddress;
 use geometry::EntryNumber;
 use geometry::Growth;
+use geometry::Place;
 use geometry::RecordNumber;
 use geometry::WordNumber;
 use geometry::byte_offset;
@@ -23,13 +23,21 @@ use geometry::entries_before;
 use geometry::entry_position;
 use geometry::position;
 use geometry::slot_of;
-ghost use Prim.Native.Nat.{_+_, _^_, _≤_, _<_};
+use layout::entry_descriptor;
+ghost use mathlib.Core.Path.{_≡_};
+ghost use Prim.Native.Nat.{_+_, _*_, _^_, _≤_, _<_};
 ghost use lib.ListN.{length};
 ghost use Rattle.outcome.specs.Outcome.{Answers};
 ghost use Rattle.geometry.specs.Units.{entriesBefore};
 ghost use Rattle.descriptor.specs.Bounds.{Admitted};
-ghost use Rattle.entry.specs.Opening.{slotPositionOf, enteredOf};
+ghost use Rattle.entry.specs.Opening.{slotPositionOf, placeStored, entryRefusal, enteredOf, extentOf};
 ghost use Rattle.entry.specs.Answers.{indexPart, sectionPart, dataPart, noPart, wordsFrom};
+
+// Where an entry starts, and the position behind it.
+pub struct Extent {
+    pub start: u64,
+    pub end: u64,
+}
 
 // The position of an entry's slot.
 pub fn slot_position(
@@ -44,6 +52,17 @@ pub fn slot_position(
     let slot = slot_of(Growth::new(d.lex1, d.gex), d.nex, d.lind, number);
     let first = aex(addresses, slot.extension);
     position(d.reclen, first, WordNumber(1)) + slot.offset
+}
+
+// The place that is stored at a slot.
+fn place_stored(file: &[u8], slot: u64) -> Place
+    requires { ⌜ 4 * (slot + 3) ≤ length (now file) ⌝ }
+    ensures { λ r. ⌜ Answers (placeStored (now (file .entry)) slot) r ⌝ }
+{
+    Place {
+        record: RecordNumber(words::u64_at(file, byte_offset(slot))),
+        word: WordNumber(words::u32_at(file, byte_offset(slot + 2)) as u64),
+    }
 }
 
 // The numbers of an entry, or the first rule of 12 to 19 that it breaks.
@@ -72,24 +91,43 @@ pub fn enter(
     if head != 0 {
         return refused(head);
     }
-    let nsec = word4_at(file, start, 3);
-    let nword = word8_at(file, start, 4);
+    let nsec = word4_at(file, start, entry_descriptor::NSEC);
+    let nword = word8_at(file, start, entry_descriptor::NWORD);
     let array = Piece {
-        address: EntryAddress(word8_at(file, start, 6)),
-        words: word8_at(file, start, 8),
+        address: EntryAddress(word8_at(file, start, entry_descriptor::ADATA)),
+        words: word8_at(file, start, entry_descriptor::LDATA),
     };
     let content = content_refusal(file, start, nsec, nword, array);
     if content != 0 {
         return refused(content);
     }
+    let version = byte_offset(entry_position(start, entry_descriptor::VERSION));
     Entered {
         refusal: 0,
         place,
         start,
-        version: words::i32_at(file, byte_offset(entry_position(start, EntryAddress(2)))),
+        version: words::i32_at(file, version),
         nsec,
         nword,
         array,
+    }
+}
+
+// Where an entry that is known to open starts and ends, as positions.
+pub fn extent_of(
+    file: &[u8],
+    d: DescriptorNumbers,
+    addresses: [RecordNumber; 16],
+    number: EntryNumber,
+) -> Extent
+    requires { ⌜ Admitted (length (now file)) d addresses × (entryRefusal (now file) d addresses number ≡ 0) ⌝ }
+    ensures { λ r. ⌜ Answers (extentOf (now (file .entry)) d addresses number) r ⌝ }
+{
+    let place = place_stored(file, slot_position(file.len() as u64, d, addresses, number));
+    let start = position(d.reclen, place.record, place.word);
+    Extent {
+        start,
+        end: start + word8_at(file, start, entry_descriptor::NWORD),
     }
 }
 

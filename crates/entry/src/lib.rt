@@ -6,19 +6,23 @@
 // crates above, which have validated before they call.
 mod answers;
 mod contents;
+mod entered;
 pub mod inner;
 mod opening;
 mod parts;
+mod rules;
 mod tables;
 
 pub use answers::DataAddress;
 pub use answers::DataPlace;
 pub use answers::Open;
+pub use answers::OpenCase;
 pub use answers::Opened;
 pub use answers::PartPlace;
-pub use answers::open_entry;
+pub use answers::open_case;
 pub use contents::Piece;
-pub use opening::Entered;
+pub use entered::Entered;
+pub use opening::open_entry;
 pub use parts::data_array;
 pub use parts::data_array_place;
 pub use parts::data_array_refusal;

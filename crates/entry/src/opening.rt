@@ -1,141 +1,46 @@
-// Opening an entry of validated numbers: where it stands, and the rules 12 to 19 in the order of
-// their tables.
-use super::contents::Piece;
-use super::contents::data_apart;
-use super::contents::data_within;
-use super::contents::sections_apart;
-use super::contents::sections_within;
-use super::contents::word4_at;
-use super::contents::word8_at;
-use descriptor::DescriptorNumbers;
-use descriptor::inner::free_position;
-use geometry::EntryAddress;
+// Opening an entry of a file.
+use super::answers::DataAddress;
+use super::answers::DataPlace;
+use super::answers::Open;
+use super::answers::Opened;
+use super::inner::enter;
+use super::tables::no_sections;
+use super::tables::section_tables;
+use descriptor::Validated;
+use descriptor::refusal_of;
+use descriptor::validate;
 use geometry::EntryNumber;
-use geometry::Place;
-use geometry::RecordNumber;
-use geometry::WordNumber;
-use geometry::byte_offset;
-use geometry::entry_position;
-use geometry::position_within;
-ghost use Prim.Native.Nat.{_+_, _*_, _^_, _≤_, _<_};
-ghost use lib.ListN.{length};
 ghost use Rattle.outcome.specs.Outcome.{Answers};
-ghost use Rattle.descriptor.specs.FirstRecord.{freeOf};
-ghost use Rattle.descriptor.specs.Bounds.{Settled, Free};
-ghost use Rattle.entry.specs.Opening.{placeOf, startRefusal, headRefusal, contentRefusal, notEntered};
-ghost use Rattle.entry.specs.Bounds.{Described};
+ghost use Rattle.entry.specs.Answers.{openOf};
 
-// The numbers of an entry, or the refusal with zeros.
-pub struct Entered {
-    pub refusal: u32,
-    pub place: Place,
-    pub start: u64,
-    pub version: i32,
-    pub nsec: u64,
-    pub nword: u64,
-    pub array: Piece,
-}
-
-// An entry with a refusal.
-pub(crate) fn refused(refusal: u32) -> Entered
-    ensures { λ r. ⌜ Answers (notEntered refusal) r ⌝ }
+// Opens an entry by its number: its numbers and tables, or the first rule of 1 to 19 that is broken.
+pub fn open_entry(file: &[u8], number: EntryNumber) -> Opened
+    ensures { λ r. ⌜ Answers (openOf (now (file .entry)) number) r ⌝ }
 {
-    Entered {
-        refusal,
-        place: Place {
-            record: RecordNumber(0),
-            word: WordNumber(0),
-        },
-        start: 0,
-        version: 0,
-        nsec: 0,
-        nword: 0,
-        array: Piece {
-            address: EntryAddress(0),
-            words: 0,
-        },
+    let validation = validate(file);
+    let case = validation.numbers;
+    let Validated::Numbers(d) = case else {
+        return Opened {
+            answer: Open::Refused(refusal_of(case)),
+            sections: no_sections(),
+        };
+    };
+    let addresses = validation.addresses;
+    let entered = enter(file, d, addresses, number);
+    if entered.refusal != 0 {
+        return Opened {
+            answer: Open::Refused(entered.refusal),
+            sections: no_sections(),
+        };
     }
-}
-
-// The place that is stored at a slot.
-pub(crate) fn place_stored(file: &[u8], slot: u64) -> Place
-    requires { ⌜ 4 * (slot + 3) ≤ length (now file) ⌝ }
-    ensures { λ r. ⌜ Answers (placeOf (now (file .entry)) slot) r ⌝ }
-{
-    Place {
-        record: RecordNumber(words::u64_at(file, byte_offset(slot))),
-        word: WordNumber(words::u32_at(file, byte_offset(slot + 2)) as u64),
+    let place = entered.place;
+    let array = entered.array;
+    let stored = DataPlace {
+        adata: DataAddress(words::signed64(array.address.0)),
+        ldata: array.words,
+    };
+    Opened {
+        answer: Open::Numbers(place, entered.version, entered.nsec, entered.nword, stored),
+        sections: section_tables(file, entered.start, entered.nsec),
     }
-}
-
-// Rule 13, where an entry starts: 0 or 13.
-pub(crate) fn start_refusal(d: DescriptorNumbers, place: Place) -> u32
-    requires { ⌜ Settled d × Free d × (freeOf d ≤ 2 ^ 28) ⌝ }
-    ensures { λ r. ⌜ Answers (startRefusal d place) r ⌝ }
-{
-    if !words::at_least8(place.record.0, 2) {
-        return 13;
-    }
-    if !words::within4(place.word.0, 1, d.reclen) {
-        return 13;
-    }
-    let free = free_position(d);
-    if !position_within(d.reclen, place.record, place.word, free - 11) {
-        return 13;
-    }
-    0
-}
-
-// Rules 14 to 16, the descriptor of the entry at a position: the first that is broken, or 0.
-pub(crate) fn head_refusal(
-    file: &[u8],
-    d: DescriptorNumbers,
-    start: u64,
-    number: EntryNumber,
-) -> u32
-    requires { ⌜ (d .reclen ≤ 4096) × Free d × (start + 11 ≤ freeOf d) × (4 * freeOf d ≤ length (now file)) ⌝ }
-    ensures { λ r. ⌜ Answers (headRefusal (now (file .entry)) d start number) r ⌝ }
-{
-    let code = byte_offset(entry_position(start, EntryAddress(1)));
-    if !words::code_at(file, code, 0x32, 0x20, 0x20, 0x20) {
-        return 14;
-    }
-    let nsec = word4_at(file, start, 3);
-    if !words::within4(nsec, 0, 64) {
-        return 15;
-    }
-    let nword = word8_at(file, start, 4);
-    if !words::at_least8(nword, 11 + 5 * nsec) {
-        return 15;
-    }
-    if free_position(d) < start + nword {
-        return 15;
-    }
-    if word8_at(file, start, 10) != number.0 {
-        return 16;
-    }
-    0
-}
-
-// Rules 17 to 19, what the entry at a position holds: the first that is broken, or 0.
-pub(crate) fn content_refusal(file: &[u8], start: u64, nsec: u64, nword: u64, array: Piece) -> u32
-    requires { ⌜ Described (length (now file)) start nsec × (nword < 2 ^ 32) ⌝ }
-    ensures { λ r. ⌜ Answers (contentRefusal (now (file .entry)) start nsec nword array) r ⌝ }
-{
-    if !words::at_least8(array.words, 0) {
-        return 17;
-    }
-    if !data_within(nsec, nword, array) {
-        return 17;
-    }
-    if !sections_within(file, start, nsec, nword) {
-        return 18;
-    }
-    if !sections_apart(file, start, nsec, nword) {
-        return 19;
-    }
-    if !data_apart(file, start, nsec, nword, array) {
-        return 19;
-    }
-    0
 }

@@ -3,18 +3,32 @@ use super::contents::section_at;
 use geometry::EntryAddress;
 use geometry::byte_offset;
 use geometry::entry_position;
+use layout::entry_descriptor::PLACES;
+use layout::entry_descriptor::identifier_word;
 ghost use Prim.Native.Nat.{_+_, _*_, _≤_, _<_};
 ghost use lib.ListN.{length};
 ghost use Rattle.outcome.specs.Outcome.{Answers};
 ghost use Rattle.entry.specs.EntryDescriptor.{identifierAt};
-ghost use Rattle.entry.specs.Tables.{identifiersOf, lengthsOf, addressesOf, sectionsOf, sectionNamed};
+ghost use Rattle.entry.specs.Tables.{sectionIdentifiers, sectionLengths, sectionAddresses, sectionsOf, sectionNamed};
+ghost use Rattle.entry.specs.Answers.{noSections};
 ghost use Rattle.entry.specs.Bounds.{Described};
 
 // The sections of an opened entry: the first nsec places of each table, the others zero.
 pub struct Sections {
-    pub identifiers: [i32; 64],
-    pub lengths: [u64; 64],
-    pub addresses: [EntryAddress; 64],
+    pub identifiers: [i32; PLACES],
+    pub lengths: [u64; PLACES],
+    pub addresses: [EntryAddress; PLACES],
+}
+
+// Tables with nothing in them.
+pub(crate) fn no_sections() -> Sections
+    ensures { λ r. ⌜ Answers noSections r ⌝ }
+{
+    Sections {
+        identifiers: [0i32; PLACES],
+        lengths: [0u64; PLACES],
+        addresses: [EntryAddress(0); PLACES],
+    }
 }
 
 // The identifier of section `i`, counted from 0.
@@ -22,17 +36,15 @@ pub(crate) fn identifier_at(file: &[u8], start: u64, nsec: u64, i: u64) -> i32
     requires { ⌜ Described (length (now file)) start nsec × (i < nsec) ⌝ }
     ensures { λ r. ⌜ Answers (identifierAt (now (file .entry)) start i) r ⌝ }
 {
-    words::i32_at(
-        file,
-        byte_offset(entry_position(start, EntryAddress(12 + i))),
-    )
+    words::i32_at(file, byte_offset(entry_position(start, identifier_word(i))))
 }
 
-fn identifiers(file: &[u8], start: u64, nsec: u64) -> [i32; 64]
+// The table of identifiers.
+fn identifiers(file: &[u8], start: u64, nsec: u64) -> [i32; PLACES]
     requires { ⌜ Described (length (now file)) start nsec ⌝ }
-    ensures { λ r. ⌜ Answers (identifiersOf (now (file .entry)) start nsec) r ⌝ }
+    ensures { λ r. ⌜ Answers (sectionIdentifiers (now (file .entry)) start nsec) r ⌝ }
 {
-    let mut table = [0i32; 64];
+    let mut table = [0i32; PLACES];
     let mut filled = 0;
     while filled < nsec {
         table[filled as usize] = identifier_at(file, start, nsec, filled);
@@ -41,11 +53,12 @@ fn identifiers(file: &[u8], start: u64, nsec: u64) -> [i32; 64]
     table
 }
 
-fn lengths(file: &[u8], start: u64, nsec: u64) -> [u64; 64]
+// The table of lengths.
+fn lengths(file: &[u8], start: u64, nsec: u64) -> [u64; PLACES]
     requires { ⌜ Described (length (now file)) start nsec ⌝ }
-    ensures { λ r. ⌜ Answers (lengthsOf (now (file .entry)) start nsec) r ⌝ }
+    ensures { λ r. ⌜ Answers (sectionLengths (now (file .entry)) start nsec) r ⌝ }
 {
-    let mut table = [0u64; 64];
+    let mut table = [0u64; PLACES];
     let mut filled = 0;
     while filled < nsec {
         table[filled as usize] = section_at(file, start, nsec, filled).words;
@@ -54,11 +67,12 @@ fn lengths(file: &[u8], start: u64, nsec: u64) -> [u64; 64]
     table
 }
 
-fn addresses(file: &[u8], start: u64, nsec: u64) -> [EntryAddress; 64]
+// The table of addresses.
+fn addresses(file: &[u8], start: u64, nsec: u64) -> [EntryAddress; PLACES]
     requires { ⌜ Described (length (now file)) start nsec ⌝ }
-    ensures { λ r. ⌜ Answers (addressesOf (now (file .entry)) start nsec) r ⌝ }
+    ensures { λ r. ⌜ Answers (sectionAddresses (now (file .entry)) start nsec) r ⌝ }
 {
-    let mut table = [EntryAddress(0); 64];
+    let mut table = [EntryAddress(0); PLACES];
     let mut filled = 0;
     while filled < nsec {
         let section = section_at(file, start, nsec, filled);

@@ -54,10 +54,12 @@ module _ (g : Growth) where
   unfolding totalOf
   total-none = refl
 
+  -- one extension more adds its capacity
   pub total-next : (k : ℕ) → totalOf g (k + 1) ≡ totalOf g k + capacityOf g (k + 1)
   unfolding totalOf
   total-next k = rw add-one
 
+  -- the last of the extensions adds its capacity
   pub total-last : (k : ℕ) → 1 ≤ k → totalOf g k ≡ totalOf g (k - 1) + capacityOf g k
   total-last k h = let q : k - 1 + 1 ≡ k = omega arith in (rw q at (total-next (k - 1)))
 
@@ -65,12 +67,15 @@ module _ (g : Growth) where
   total-plus k zero = let q : k + 0 ≡ k = omega arith in rw q (omega arith)
   total-plus k (suc d) = let q : k + suc d ≡ k + d + 1 = omega arith in rw q (omega (arith, total-next (k + d), total-plus k d))
 
+  -- more extensions hold no fewer entries
   pub total-le : (k n : ℕ) → k ≤ n → totalOf g k ≤ totalOf g n
   total-le k n h = let q : k + (n - k) ≡ n = omega arith in (rw q at (total-plus k (n - k)))
 
+  -- extensions that hold fewer entries are fewer
   pub total-before : (k n : ℕ) → totalOf g k < totalOf g n → k < n
   total-before k n h = elim (decLe n k) [ yes l ↦ absurd (omega (arith, total-le n k l)) | no l ↦ lt-of-not-le l ]
 
+  -- extensions within the limit hold no more than the limit each
   pub total-limit : (k n : ℕ) → k ≤ n → overOf g n ≡ false → totalOf g k ≤ k * 16384
   unfolding totalOf
   total-limit zero n h e = omega arith
@@ -78,6 +83,7 @@ module _ (g : Growth) where
 
   -- a growth that the rules admit never shrinks
   module _ (lex1-low : 1 ≤ g .lex1) (gex-low : 10 ≤ g .gex) where
+    -- a capacity is no smaller than the one before it
     pub capacity-rise : (k : ℕ) → 1 ≤ k → capacityOf g k ≤ capacityOf g (k + 1)
     capacity-rise k h = rw (capacity-step g k h) (omega (arith, mul-le-mul-left (capacityOf g k) gex-low))
 
@@ -87,13 +93,16 @@ module _ (g : Growth) where
         let q : k + suc d ≡ k + d + 1 = omega arith in
         rw q (omega (arith, capacity-rise (k + d) (omega arith), capacity-plus k d h))
 
+    -- nor than any before it
     pub capacity-le : (k n : ℕ) → 1 ≤ k → k ≤ n → capacityOf g k ≤ capacityOf g n
     capacity-le k n h l = let q : k + (n - k) ≡ n = omega arith in (rw q at (capacity-plus k (n - k) h))
 
+    -- each extension has room for an entry
     pub capacity-some : (k : ℕ) → 1 ≤ k → 1 ≤ capacityOf g k
     unfolding capacityOf
     capacity-some k h = omega (arith, capacity-le 1 k (omega arith) h)
 
+    -- and more extensions hold more entries
     pub total-lt : (k n : ℕ) → k < n → totalOf g k < totalOf g n
     total-lt k n h =
         omega (arith, total-le (k + 1) n (omega arith), total-next k, capacity-some (k + 1) (omega arith))

@@ -51,5 +51,6 @@ first-record-offset reclen w = omega arith
 pub position-address : (start p : ℕ) → start ≤ p → entryPositionOf start (entryAddressOf start p) ≡ p
 position-address start p h = omega arith
 
+-- an address is that of its position
 pub address-position : (start : ℕ) (a : EntryAddress) → 1 ≤ a .0 → entryAddressOf start (entryPositionOf start a) ≡ a
 address-position start a h = let e : start + (a .0 - 1) - start + 1 ≡ a .0 = omega arith in λ i. record { 0 = e i }

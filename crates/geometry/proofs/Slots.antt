@@ -73,6 +73,7 @@ pub record Stands (g : Growth) (nex lind e : ℕ) (s : Slot) : Type 0 where
   pub room : s .place ≤ capacityOf g (s .extension .0)
   pub words : s .offset ≡ (s .place - 1) * lind
 
+-- the slot of an entry stands in the extension that holds it
 pub slot-stands : (g : Growth) (nex lind : ℕ) (e : EntryNumber) → 1 ≤ e .0 → e .0 ≤ totalOf g nex → Stands g nex lind (e .0) (slotOf g nex lind e)
 unfolding slotOf
 slot-stands g nex lind e h l =

@@ -8,11 +8,13 @@ use lib.Dec.{ltb}
 use Rattle.geometry.specs.declared.growth.Growth.{Growth}
 use Rattle.geometry.specs.Growth.{grownOf, capacityOf, overOf}
 
+-- the next capacity is grown from the one before it
 pub capacity-step : (g : Growth) (k : ℕ) → 1 ≤ k → capacityOf g (k + 1) ≡ grownOf g (capacityOf g k)
 unfolding capacityOf
 capacity-step g zero h = absurd (omega arith)
 capacity-step g (suc k) h = rw add-one
 
+-- one extension more passes the limit where those before it do, or it does itself
 pub over-step : (g : Growth) (k : ℕ) → overOf g (k + 1) ≡ overOf g k || ltb 16384 (capacityOf g (k + 1))
 unfolding overOf
 over-step g k = rw add-one

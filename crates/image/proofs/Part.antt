@@ -7,15 +7,17 @@ use lib.ListN.{length, take, drop, length-take, length-drop}
 use lib.Seq.{drop-drop, drop-nil, take-nil, take-all, take-add}
 use Rattle.image.specs.Image.{splice, part}
 
+-- a part within the image is as long as asked
 pub length-part : (image : List ℕ) (at n : ℕ) → at + n ≤ length image → length (part image at n) ≡ n
 unfolding part
 length-part image at n h = simp (length-take, length-drop) (omega arith)
 
+-- the part of all is the image
 pub part-all : (image : List ℕ) → part image 0 (length image) ≡ image
 unfolding part
 part-all image = take-all (length image) image (omega arith)
 
-pub part-nil : (at n : ℕ) → part [] at n ≡ []
+part-nil : (at n : ℕ) → part [] at n ≡ []
 unfolding part
 part-nil at n = ap (take n) (drop-nil at) ∙ take-nil n
 
@@ -32,6 +34,7 @@ part-left [] ys at (suc n) h = absurd (omega arith)
 part-left (x ∷ xs) ys (suc at) (suc n) h = part-left xs ys at (suc n) (omega arith)
 part-left (x ∷ xs) ys zero (suc n) h = ap (λ (l : List ℕ). x ∷ l) (part-left xs ys zero n (omega arith))
 
+-- a part of what is appended is a part of the appended list
 pub part-right : (xs ys : List ℕ) (at i n : ℕ) → at ≡ length xs + i → part (xs ++ ys) at n ≡ part ys i n
 unfolding part
 part-right [] ys at i n e = let q : at ≡ i = omega arith in ap (λ (k : ℕ). take n (drop k ys)) q

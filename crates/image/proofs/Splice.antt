@@ -80,6 +80,7 @@ splice-over (x ∷ image) zero (y ∷ ys) zero [] h k = absurd (omega arith)
 splice-over (x ∷ image) zero (y ∷ ys) zero (z ∷ zs) h k =
     ap (λ (l : List ℕ). z ∷ l) (splice-over image zero ys zero zs (omega arith) (omega arith))
 
+-- a run of zeros is as long as asked
 pub length-zeros : (n : ℕ) → length (zeros n) ≡ n
 unfolding zeros
 length-zeros n = length-replicate n 0

@@ -10,6 +10,7 @@ use Rattle.image.specs.Writes.{Write, put, writes, written, Follows, Apa
 use Rattle.image.proofs.Splice.{splice-nil, splice-adjacent, length-splice}
 use Rattle.image.proofs.Part.{part-before, part-behind, part-same}
 
+-- writes keep the length
 pub length-writes : (image : List ℕ) (ws : List Write) → length (writes image ws) ≡ length image
 length-writes image [] = refl
 length-writes image (put at ys ∷ ws) = length-writes (splice image at ys) ws ∙ length-splice image at ys

@@ -44,6 +44,7 @@ few k n h f =
           absurd (omega (arith, f .2 (omega arith), pow-le-pow-right {n = 10} (omega arith) {i = 20} {j = k - 1} more))
     ]
 
+-- the fewest digits of a number are its decimal
 pub decimal-digits : (k n : ℕ) → n < 2 ^ 64 → Fewest 10 1 n k → digits 10 k n ≡ decimalOf n
 unfolding decimalOf
 decimal-digits k n h f = fewest-digits 20 k n (few k n h f) f
@@ -69,21 +70,25 @@ length-held (suc j) (suc (suc k)) n h l =
     let rest = length-held j (suc k) (n / 10) (omega arith) (omega arith) in
     either-length (ltb n 10) _ _ (suc (suc k)) (omega arith) (rw length-append (omega arith))
 
--- so a decimal number has 20 bytes at most, and below 100,000 it has 5; a field has one more
+-- so a decimal number has 20 bytes at most
 pub length-decimal : (n : ℕ) → length (decimalOf n) ≤ 20
 unfolding decimalOf
 length-decimal n = length-in 20 n
 
+-- below 100,000 it has 5
 pub length-small : (n : ℕ) → n < 100000 → length (decimalOf n) ≤ 5
 unfolding decimalOf
 length-small n h = length-held 20 5 n (omega arith) h
 
+-- a field has one byte more
 pub length-field : (n end : ℕ) → length (fieldOf n end) ≡ length (decimalOf n) + 1
 unfolding fieldOf
 length-field n end = length-append (decimalOf n) (end ∷ [])
 
+-- so it has 21 bytes at most
 pub field-short : (n end : ℕ) → length (fieldOf n end) ≤ 21
 field-short n end = omega (arith, length-field n end, length-decimal n)
 
+-- and below 100,000 it has 6
 pub field-small : (n end : ℕ) → n < 100000 → length (fieldOf n end) ≤ 6
 field-small n end h = omega (arith, length-field n end, length-small n h)

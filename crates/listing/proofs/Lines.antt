@@ -13,32 +13,35 @@ use Rattle.image.proofs.Writes.{writes-one}
 use Rattle.geometry.specs.declared.units.RecordNumber.{RecordNumber}
 use Rattle.geometry.specs.Units.{entriesBefore}
 use Rattle.descriptor.specs.declared.numbers.DescriptorNumbers.{DescriptorNumbers}
-use Rattle.entry.specs.declared.opening.Entered.{Entered}
+use Rattle.entry.specs.declared.entered.Entered.{Entered}
 use Rattle.entry.specs.Opening.{enteredOf}
 use Rattle.listing.specs.Text.{space, newline, decimalOf, fieldOf, joined}
 use Rattle.listing.specs.Listing.{refusedOf, openedRow, refusedRow, rowOf, rowsFrom, rowsOf}
 use Rattle.listing.proofs.Decimal.{either-length, length-decimal, field-short}
 
--- the length of a line, piece by piece
+-- the length of a refusal, piece by piece
 pub length-refused : (n : ℕ) → length (refusedOf n) ≡ 9 + length (fieldOf n newline)
 unfolding refusedOf
 length-refused n = omega arith
 
+-- of the row of an entry that opens
 pub length-opened : (e : ℕ) (x : Entered) → length (openedRow e x)
     ≡ length (fieldOf e space) + (length (fieldOf (x .place .«record» .0) space) + (length (fieldOf (x .place .word .0) space)
     + (length (fieldOf (x .nword) space) + (length (fieldOf (x .nsec) space) + length (fieldOf (x .array .words) newline)))))
 unfolding openedRow
 length-opened e x = simp length-append (omega arith)
 
+-- of the row of one that does not
 pub length-refused-row : (e n : ℕ) → length (refusedRow e n) ≡ length (decimalOf e) + length (refusedOf n)
 unfolding refusedRow
 length-refused-row e n = length-append (decimalOf e) (refusedOf n)
 
--- which of the two an entry has
+-- an entry that opens has the one row
 pub row-opened : (e : ℕ) (x : Entered) → x .refusal ≡ 0 → rowOf e x ≡ openedRow e x
 unfolding rowOf
 row-opened e x z = rw z
 
+-- an entry that is refused has the other
 pub row-refused : (e : ℕ) (x : Entered) → eqb (x .refusal) 0 ≡ false → rowOf e x ≡ refusedRow e (x .refusal)
 unfolding rowOf
 row-refused e x h = rw h
@@ -87,21 +90,24 @@ module _ (file : List ℕ) (d : DescriptorNumbers) (addresses : List RecordNumbe
   abbrev pub rest : ℕ → ℕ → List ℕ
   rest k left = joined (rowsFrom file d addresses k left)
 
+  -- there are none behind the last
   pub rest-none : (k : ℕ) → rest k 0 ≡ []
   unfolding rowsFrom
   rest-none k = refl
 
+  -- the next row, and those behind it
   pub rest-next : (k left : ℕ) (x : Entered) → 1 ≤ left → x ≡ enteredOf file d addresses (record { 0 = k })
       → rest k left ≡ rowOf k x ++ rest (k + 1) (left - 1)
   unfolding rowsFrom
   rest-next k zero x h q = absurd (omega arith)
   rest-next k (suc left) x h q = let p : suc left - 1 ≡ left = omega arith in rw (p, q)
 
-  -- one row more of their length, and a bound of it
+  -- one row more of their length
   pub length-next : (k left : ℕ) (x : Entered) → 1 ≤ left → x ≡ enteredOf file d addresses (record { 0 = k })
       → length (rest k left) ≡ length (rowOf k x) + length (rest (k + 1) (left - 1))
   length-next k left x h q = ap length (rest-next k left x h q) ∙ length-append (rowOf k x) (rest (k + 1) (left - 1))
 
+  -- where no row is longer than most
   pub length-rest : (most k left : ℕ) → ((i : ℕ) → k ≤ i → i < k + left → length (rowOf i (enteredOf file d addresses (record { 0 = i }))) ≤ most)
       → length (rest k left) ≤ most * left
   length-rest most k zero h = omega (arith, ap length (rest-none k))
@@ -111,6 +117,7 @@ module _ (file : List ℕ) (d : DescriptorNumbers) (addresses : List RecordNumbe
       let next = rw q at (length-next k (suc left) (enteredOf file d addresses (record { 0 = k })) (omega arith) refl) in
       omega (arith, later, h k (omega arith) (omega arith), next)
 
+  -- all rows together
   pub rows-short : length (joined (rowsOf file d addresses)) ≤ 126 * entriesBefore (d .xnext)
   rows-short = length-rest 126 1 (entriesBefore (d .xnext)) (λ i l m. row-short i (enteredOf file d addresses (record { 0 = i })))
 
@@ -128,5 +135,6 @@ module _ (file : List ℕ) (d : DescriptorNumbers) (addresses : List RecordNumbe
   count-from k zero = refl
   count-from k (suc left) = ap suc (count-from (k + 1) left)
 
+  -- there is a row for each entry
   pub rows-count : length (rowsOf file d addresses) ≡ entriesBefore (d .xnext)
   rows-count = count-from 1 (entriesBefore (d .xnext))

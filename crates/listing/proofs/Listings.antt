@@ -18,14 +18,17 @@ use Rattle.listing.specs.Listing.{header, refusedOf, rowsOf, refusedFile
 
 -- bytes that fit a lent buffer
 module _ (bytes out : List ℕ) (fits : length bytes ≤ length out) where
+  -- all of them are counted
   pub fit-count : countIn bytes out ≡ length bytes
   unfolding countIn
   fit-count = rw (le-leb (length bytes) (length out) fits)
 
+  -- and written at the start
   pub fit-filled : filledBy bytes out ≡ splice out 0 bytes
   unfolding filledBy
   fit-filled = rw (le-leb (length bytes) (length out) fits)
 
+  -- so a count of all, with all written, is what is asked for
   pub handed-over : (count : ℕ) (exit : List ℕ) → count ≡ length bytes → exit ≡ splice out 0 bytes
       → (count ≡ countIn bytes out) × (exit ≡ filledBy bytes out)
   handed-over count exit e x = (e ∙ sym fit-count, x ∙ sym fit-filled)
@@ -37,20 +40,23 @@ left-alone bytes out long = let n = lt-leb (length bytes) (length out) long in (
 
 -- the listing of validated numbers: the header, and the rows behind it
 module _ (file : List ℕ) (d : DescriptorNumbers) (addresses : List RecordNumber) where
+  -- its length
   pub length-entries : length (entriesListing file d addresses) ≡ 38 + length (joined (rowsOf file d addresses))
   unfolding entriesListing header
   length-entries = omega arith
 
+  -- the two written one behind the other
   pub entries-laid : (out : List ℕ)
       → splice (splice out 0 header) 38 (joined (rowsOf file d addresses)) ≡ splice out 0 (entriesListing file d addresses)
   unfolding entriesListing header
   entries-laid out = splice-adjacent out 0 header 38 (joined (rowsOf file d addresses)) refl
 
--- the line of a refused file
+-- the length of the line of a refused file
 pub length-refused-file : (n : ℕ) → length (refusedFile n) ≡ 4 + length (refusedOf n)
 unfolding refusedFile
 length-refused-file n = omega arith
 
+-- its two pieces written one behind the other
 pub refused-laid : (n : ℕ) (out : List ℕ) → splice (splice out 0 (text "file")) 4 (refusedOf n) ≡ splice out 0 (refusedFile n)
 unfolding refusedFile
 refused-laid n out = splice-adjacent out 0 (text "file") 4 (refusedOf n) refl
@@ -61,11 +67,12 @@ pub listing-by : (file : List ℕ) (v : Validation) (case : Validated) → v ≡
 unfolding listingOf
 listing-by file v case e q = rw (← e, ← q)
 
--- the output, by the length of the input
+-- the output of an input within the limit is its listing
 pub output-within : (input : List ℕ) → length input ≤ 65536 → outputOf input ≡ listingOf input
 unfolding outputOf
 output-within input h = rw (le-leb (length input) 65536 h)
 
+-- a longer one is over the limit
 pub output-over : (input : List ℕ) → 65536 < length input → outputOf input ≡ overLimit
 unfolding outputOf
 output-over input h = rw (lt-leb (length input) 65536 h)

@@ -23,9 +23,9 @@ use Rattle.descriptor.specs.Answers.{validationOf}
 use Rattle.descriptor.specs.Bounds.{Admitted}
 use Rattle.descriptor.proofs.Answered.{told}
 use Rattle.entry.specs.declared.contents.Piece.{Piece}
-use Rattle.entry.specs.declared.opening.Entered.{Entered}
+use Rattle.entry.specs.declared.entered.Entered.{Entered}
 use Rattle.entry.specs.Contents.{dataWithin}
-use Rattle.entry.specs.Opening.{slotPositionOf, placeOf, entryRefusal, enteredAt, enteredOf}
+use Rattle.entry.specs.Opening.{slotPositionOf, placeStored, entryRefusal, enteredAt, enteredOf}
 use Rattle.entry.proofs.Pieces.{data-placed}
 use Rattle.entry.proofs.Entering.{entry-opens, entered-numbers, entered-refusal}
 use Rattle.listing.specs.Text.{space, newline}
@@ -52,7 +52,7 @@ module _ (file : List ℕ) (d : DescriptorNumbers) (addresses : List RecordNumbe
   unfolding positionOf
   opened-small e h z =
       let o = entry-opens file d addresses e a z in
-      let place = placeOf file (slotPositionOf d addresses e) in
+      let place = placeStored file (slotPositionOf d addresses e) in
       let x = enteredAt file d place in
       let some : 1 ≤ d .reclen = omega (arith, a .settled .reclen-low) in
       let free : freeOf d ≤ 16384 = omega (arith, a .room) in
@@ -100,6 +100,7 @@ listing-short file h =
     let v = validationOf file in
     rw (listing-by file v (v .numbers) refl refl) (case-short file (v .numbers) (v .addresses) (λ d q. told file v d refl q .admitted) h)
 
+-- the line of an input over the limit
 pub length-over : length overLimit ≡ 23
 unfolding overLimit
 length-over = refl

@@ -12,7 +12,7 @@ use Rattle.descriptor.specs.declared.numbers.DescriptorNumbers.{DescriptorNumbe
 use Rattle.descriptor.specs.declared.validating.Validated.{Validated}
 use Rattle.descriptor.specs.declared.validating.Validated.the-variants.{Numbers, Refused}
 use Rattle.descriptor.specs.Answers.{validationOf}
-use Rattle.entry.specs.declared.opening.Entered.{Entered}
+use Rattle.entry.specs.declared.entered.Entered.{Entered}
 use Rattle.entry.specs.Opening.{enteredOf}
 use Rattle.listing.specs.Buffer.{HandsOver}
 use Rattle.listing.specs.Text.{text, space, newline, decimalOf, fieldOf, joined}

@@ -13,10 +13,11 @@ use Rattle.descriptor.specs.declared.validating.Validated.{Validated}
 use Rattle.descriptor.specs.declared.validating.Validation.{Validation}
 use Rattle.descriptor.specs.FirstRecord.{growthIn}
 use Rattle.descriptor.specs.Answers.{validationOf}
-use Rattle.entry.specs.declared.opening.Entered.{Entered}
+use Rattle.entry.specs.declared.entered.Entered.{Entered}
 use Rattle.entry.specs.Opening.{enteredOf}
 use Rattle.entry.proofs.Entering.{entry-number, entered-refused}
-use Rattle.order.specs.Order.{endOf, startsInOrder, endsInOrder, orderRefusal, allPass, checkedFrom, checkedIn, checkOf}
+use Rattle.entry.specs.Opening.{endOf}
+use Rattle.order.specs.Order.{startsInOrder, endsInOrder, orderRefusal, allPass, checkedFrom, checkedIn, checkOf}
 
 module _ (file : List ℕ) (d : DescriptorNumbers) (addresses : List RecordNumber) where
   abbrev pub entryAt : ℕ → Entered

@@ -6,30 +6,18 @@ use lib.Dec.{leb, ltb, eqb}
 use Rattle.geometry.specs.declared.units.RecordNumber.{RecordNumber}
 use Rattle.geometry.specs.declared.units.EntryNumber.{EntryNumber}
 use Rattle.geometry.specs.declared.area.Slot.{Slot}
-use Rattle.geometry.specs.Units.{positionOf, entriesBefore}
+use Rattle.geometry.specs.Units.{entriesBefore}
 use Rattle.geometry.specs.Growth.{capacityOf}
 use Rattle.geometry.specs.Area.{slotOf}
 use Rattle.descriptor.specs.declared.numbers.DescriptorNumbers.{DescriptorNumbers}
 use Rattle.descriptor.specs.declared.validating.Validated.{Validated}
 use Rattle.descriptor.specs.declared.validating.Validated.the-variants.{Numbers, Refused}
 use Rattle.descriptor.specs.Refusal.{Rule, row, refusalIn}
-use Rattle.descriptor.specs.FirstRecord.{aexOf, growthIn}
-use Rattle.descriptor.specs.Rules.{areaAfter}
+use Rattle.descriptor.specs.FirstRecord.{growthIn}
+use Rattle.descriptor.specs.Areas.{areaStartOf, areaEndOf}
 use Rattle.descriptor.specs.Answers.{validationOf}
-use Rattle.entry.specs.declared.opening.Entered.{Entered}
-use Rattle.entry.specs.Opening.{enteredOf}
-use Rattle.order.specs.declared.checking.Checked.{Checked}
-
--- the position where an index area starts, and where it ends
-abbrev pub areaStartOf : DescriptorNumbers → List RecordNumber → ℕ → ℕ
-areaStartOf d addresses k = positionOf (d .reclen) (aexOf addresses k) (record { 0 = 1 })
-
-abbrev pub areaEndOf : DescriptorNumbers → List RecordNumber → ℕ → ℕ
-areaEndOf d addresses k = positionOf (d .reclen) (record { 0 = areaAfter d addresses k }) (record { 0 = 1 })
-
--- the position behind an entry
-abbrev pub endOf : Entered → ℕ
-endOf x = x .start + x .nword
+use Rattle.entry.specs.Opening.{enteredOf, endOf}
+use Rattle.order.specs.declared.answers.Checked.{Checked}
 
 -- an entry starts at or after the end of its extension's index area (the first of an extension) or of the entry before it (others)
 unfoldable pub startsInOrder : DescriptorNumbers → List RecordNumber → Slot → ℕ → ℕ → Bool

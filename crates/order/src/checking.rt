@@ -1,4 +1,5 @@
 // The order check of a file.
+use super::answers::Checked;
 use super::inner::check_entries;
 use descriptor::Validated;
 use descriptor::refusal_of;
@@ -6,13 +7,6 @@ use descriptor::validate;
 use geometry::EntryNumber;
 ghost use Rattle.outcome.specs.Outcome.{Answers};
 ghost use Rattle.order.specs.Order.{checkOf};
-
-// The answer of the check: the first entry that fails with its refusal, 0 and 0 where all pass, and
-// entry 0 with the number where the descriptor is refused.
-pub struct Checked {
-    pub entry: EntryNumber,
-    pub refusal: u32,
-}
 
 // Checks that all entries open and stand in the order of appends.
 pub fn check_order(file: &[u8]) -> Checked

@@ -1,7 +1,7 @@
 // The check over the entries of validated numbers.
-use super::checking::Checked;
-use super::rule::ends_in_order;
-use super::rule::starts_in_order;
+use super::answers::Checked;
+use super::rules::ends_in_order;
+use super::rules::starts_in_order;
 use descriptor::DescriptorNumbers;
 use entry::inner::enter;
 use geometry::EntryNumber;

@@ -1,2 +1,3 @@
 -- The laws of `outcome`.
 pub mod Determined
+pub mod Either

@@ -11,7 +11,7 @@ use Rattle.descriptor.proofs.Answered.{answer-numbers}
 use Rattle.writer.specs.Handed.{Handed}
 use Rattle.writer.specs.Rules.{appendRefusal}
 use Rattle.writer.specs.Answers.{appendedFrom, appendIn, appendOf}
-use Rattle.writer.proofs.Kept.{either}
+use Rattle.outcome.proofs.Either.{either}
 
 module _ (file : List ℕ) (h : Handed) where
   -- the refusal of an append to the file's numbers

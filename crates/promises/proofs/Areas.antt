@@ -10,10 +10,9 @@ use Rattle.geometry.specs.Growth.{capacityOf}
 use Rattle.geometry.proofs.Slots.{records-hold}
 use Rattle.descriptor.specs.declared.numbers.DescriptorNumbers.{DescriptorNumbers}
 use Rattle.descriptor.specs.FirstRecord.{aexOf, growthIn, freeOf}
-use Rattle.descriptor.specs.Rules.{areaAfter}
+use Rattle.descriptor.specs.Areas.{areaAfter, areaStartOf, areaEndOf}
 use Rattle.descriptor.specs.Bounds.{Admitted}
 use Rattle.descriptor.proofs.AreaOrder.{area-low, after-le, area-ends, area-words, area-first}
-use Rattle.order.specs.Order.{areaStartOf, areaEndOf}
 
 module _ (bytes : ℕ) (d : DescriptorNumbers) (addresses : List RecordNumber) (a : Admitted bytes d addresses) where
   -- an area ends before the next free position
@@ -25,7 +24,7 @@ module _ (bytes : ℕ) (d : DescriptorNumbers) (addresses : List RecordNumber) (
   pub area-end-le : (j k : ℕ) → j ≤ k → k ≤ d .nex → areaEndOf d addresses j ≤ areaEndOf d addresses k
   unfolding positionOf
   area-end-le j k h m =
-      let less : areaAfter d addresses j - 1 ≤ areaAfter d addresses k - 1 = omega (arith, after-le bytes d addresses a j k h m) in
+      let less : areaAfter d addresses j .0 - 1 ≤ areaAfter d addresses k .0 - 1 = omega (arith, after-le bytes d addresses a j k h m) in
       omega (arith, mul-le-mul-right (d .reclen) less)
 
   -- the first record ends before an area starts
@@ -41,7 +40,7 @@ module _ (bytes : ℕ) (d : DescriptorNumbers) (addresses : List RecordNumber) (
   areas-order j k l h m =
       let q : k - 1 + 1 ≡ k = omega arith in
       let low = rw q at (area-low d addresses (k - 1) (d .nex) (omega arith) (a .started) .0) in
-      let less : areaAfter d addresses j - 1 ≤ aexOf addresses k .0 - 1 = omega (arith, after-le bytes d addresses a j (k - 1) (omega arith) (omega arith)) in
+      let less : areaAfter d addresses j .0 - 1 ≤ aexOf addresses k .0 - 1 = omega (arith, after-le bytes d addresses a j (k - 1) (omega arith) (omega arith)) in
       omega (arith, mul-le-mul-right (d .reclen) less)
 
   -- its capacity of slots ends within it

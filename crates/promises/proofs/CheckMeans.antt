@@ -18,9 +18,9 @@ use Rattle.descriptor.specs.FirstRecord.{numbersOf, addressesOf}
 use Rattle.descriptor.specs.Refusal.{Rule, Given, AllHold}
 use Rattle.descriptor.specs.Rules.{fileRefusal}
 use Rattle.descriptor.proofs.Answered.{answer-numbers, answer-refused}
-use Rattle.order.specs.declared.checking.Checked.{Checked}
+use Rattle.order.specs.declared.answers.Checked.{Checked}
 use Rattle.order.specs.Order.{orderRefusal, checkedFrom, checkedIn, checkOf}
-use Rattle.writer.proofs.Kept.{either}
+use Rattle.outcome.proofs.Either.{either}
 use Rattle.promises.specs.Tables.{validateTests, entryRows, orderRows, orderTests, Exactly, reported, FirstToFail, ChecksExactly}
 use Rattle.promises.proofs.OrderPassed.{scan-all, scan-pass}
 use Rattle.promises.proofs.RefusalMeans.{exactly, numbered-joined, joined, entry-number}

@@ -9,12 +9,13 @@ use Rattle.descriptor.specs.declared.numbers.Settings.{Settings}
 use Rattle.descriptor.specs.declared.numbers.DescriptorNumbers.{DescriptorNumbers}
 use Rattle.descriptor.specs.declared.validating.Validated.the-variants.{Numbers}
 use Rattle.descriptor.specs.FirstRecord.{createdOf}
-use Rattle.descriptor.specs.Answers.{validationOf}
+use Rattle.descriptor.specs.declared.validating.Validation.{Validation}
+use Rattle.descriptor.specs.Answers.{validationOf, validatedCase}
 use Rattle.order.specs.Order.{allPass, checkedFrom, checkedIn, checkOf}
 use Rattle.order.proofs.Checks.{scan-none, check-by}
 use Rattle.writer.specs.Creation.{creationRefusal, createdFile}
-use Rattle.writer.proofs.CreatedBack.{noAddresses, created-admitted, created-validated}
-use Rattle.promises.specs.Contents.{contents}
+use Rattle.written.proofs.CreatedBack.{noAddresses, created-admitted, created-validated}
+use Rattle.promises.specs.Contents.{inOrder, readingOf, contents}
 use Rattle.promises.specs.Regions.{SoundIn, Sound}
 use Rattle.promises.proofs.Spread.{Spread, spread-apart, sound-shown}
 
@@ -61,4 +62,4 @@ module _ (file : List ℕ) (s : Settings) (e : creationRefusal (length file) s �
   -- and a reader finds no entry
   pub created-empty : contents new ≡ []
   unfolding contents createdOf
-  created-empty = rw shown
+  created-empty = ap (λ (v : Validation). inOrder (λ k. readingOf new (record { 0 = k })) (entriesBefore (validatedCase (v .numbers) .numbers .xnext))) shown

@@ -4,32 +4,30 @@ use mathlib.Core.Path.{_≡_, refl, sym, ap, _∙_}
 use mathlib.Core.Logic.{inl, inr}
 use mathlib.Core.List.{List}
 use native.Mathlib.Omega.{arith}
-use Rattle.descriptor.specs.declared.validating.Validation.{Validation}
 use Rattle.descriptor.specs.FirstRecord.{numbersOf, addressesOf}
 use Rattle.descriptor.proofs.Answered.{answer-numbers}
 use Rattle.entry.specs.declared.answers.Opened.{Opened}
-use Rattle.entry.specs.Answers.{openedAs, openOf, numberOf}
+use Rattle.entry.specs.Answers.{openedAs, openCase}
 use Rattle.entry.proofs.Entering.{entered-numbers}
 use Rattle.entry.proofs.Handing.{open-numbers}
 use Rattle.order.specs.Order.{allPass, checkOf}
-use Rattle.promises.specs.Contents.{entriesIn}
+use Rattle.promises.specs.Contents.{entriesOf, openedIn}
 use Rattle.promises.specs.Calls.{Call, AllFit, run, answers}
 use Rattle.promises.specs.Regions.{Sound}
-use Rattle.promises.specs.Demand.{Start, entriesOf, Promised}
+use Rattle.promises.specs.Demand.{Start, Promised}
 use Rattle.promises.proofs.OrderSound.{order-sound}
 use Rattle.promises.proofs.OrderAgain.{run-ordered}
-use Rattle.promises.proofs.Series.{run-sound, run-contents, run-numbers}
+use Rattle.promises.proofs.Series.{entries-shown, run-sound, run-contents, run-stays, run-numbers}
 use Rattle.promises.proofs.CreatedSound.{created-check}
 
 -- every entry of a sound file opens
-pub sound-opens : (file : List ℕ) → Sound file → (e : ℕ) → 1 ≤ e → e ≤ entriesOf file → numberOf (openOf file (record { 0 = e }) .answer) ≡ 0
+pub sound-opens : (file : List ℕ) → Sound file → (e : ℕ) → 1 ≤ e → e ≤ entriesOf file → openedIn file (record { 0 = e }) .refusal ≡ 0
 unfolding openedAs
 sound-opens file s e l h =
     let d = numbersOf file in
     let shown = answer-numbers file (s .admitted) in
-    let high = ap (λ (v : Validation). entriesIn (v .numbers)) shown in
-    let opens = s .inside .opens e l (omega arith) in
-    ap (λ (o : Opened). numberOf (o .answer)) (open-numbers file (record { 0 = e }) (sym shown) refl)
+    let opens = s .inside .opens e l (omega (arith, entries-shown file s)) in
+    ap (λ (o : Opened). openCase (o .answer) .refusal) (open-numbers file (record { 0 = e }) (sym shown) refl)
     ∙ rw (entered-numbers file d (addressesOf file (d .nex)) (record { 0 = e }) opens)
 
 -- a file that demand 3 starts from passes the order check
@@ -45,6 +43,7 @@ demand-3 calls g file start =
     let after = run-sound calls g file s in
     record {
       kept = run-contents calls g file s;
+      stays = run-stays calls g file s;
       numbered = run-numbers calls g file s;
       opened = sound-opens (run calls file) after;
       apart = after .inside .apart;

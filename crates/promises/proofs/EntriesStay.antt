@@ -1,6 +1,6 @@
 -- An accepted append leaves every entry that opens, and that its slot does not meet, as it was: its numbers, its tables, and the bytes of its parts. Assumes nothing.
-use Prim.Native.Nat.{ℕ, _+_, _*_, _-_, _≤_}
-use mathlib.Core.Path.{_≡_, refl}
+use Prim.Native.Nat.{ℕ, _+_, _*_, _≤_}
+use mathlib.Core.Path.{_≡_, refl, ap}
 use mathlib.Core.Logic.{inl, inr}
 use mathlib.Core.List.{List}
 use native.Mathlib.Omega.{arith}
@@ -10,24 +10,27 @@ use Rattle.geometry.specs.declared.units.RecordNumber.{RecordNumber}
 use Rattle.geometry.specs.declared.units.EntryNumber.{EntryNumber}
 use Rattle.geometry.specs.Units.{entriesBefore}
 use Rattle.geometry.specs.Area.{slotOf}
+use Rattle.layout.specs.EntryWords.{descriptorWords}
 use Rattle.geometry.proofs.Positions.{position-place}
 use Rattle.geometry.proofs.Slots.{slot-more, slots-apart}
 use Rattle.descriptor.specs.declared.numbers.DescriptorNumbers.{DescriptorNumbers}
 use Rattle.descriptor.specs.FirstRecord.{growthIn, freeOf}
 use Rattle.descriptor.proofs.Fitting.{fit-reach}
+use Rattle.entry.specs.declared.entered.Entered.{Entered}
 use Rattle.entry.specs.Opening.{slotPositionOf, entryRefusal, enteredOf}
-use Rattle.entry.proofs.Entering.{slot-in-use, slot-inside, entry-opens}
-use Rattle.entry.proofs.Agreeing.{Agrees}
-use Rattle.order.specs.Order.{areaStartOf}
+use Rattle.entry.proofs.Entering.{slot-in-use, slot-inside, slot-low, entry-opens, entered-numbers}
+use Rattle.alike.proofs.EntryFields.{bytes-same}
+use Rattle.alike.proofs.Agreeing.{Agrees}
+use Rattle.descriptor.specs.Areas.{areaStartOf}
 use Rattle.writer.specs.Handed.{Handed, nwordIn}
 use Rattle.writer.specs.Placing.{full, entryStart, nexAfter, numbersAfter, addressesAfter}
 use Rattle.writer.specs.Writing.{appended}
 use Rattle.writer.specs.Bounds.{Accepted}
 use Rattle.writer.proofs.Places.{start-low, nex-more}
-use Rattle.writer.proofs.Kept.{either, nex-full, nex-kept, addresses-kept}
-use Rattle.writer.proofs.Frame.{Beside, frame}
+use Rattle.outcome.proofs.Either.{either}
+use Rattle.writer.proofs.Kept.{nex-full, nex-kept, addresses-kept}
+use Rattle.written.proofs.Frame.{Beside, frame}
 use Rattle.writer.proofs.Accepting.{after, admitted-after, number-last, slotThen}
-use Rattle.writer.proofs.Admitting.{slot-low}
 use Rattle.promises.proofs.Areas.{areas-order, area-holds}
 use Rattle.promises.proofs.Spread.{opened-behind, opened-free}
 
@@ -110,7 +113,7 @@ module _ (file : List ℕ) (d : DescriptorNumbers) (addresses : List RecordNumbe
   stays : (a n : ℕ) → 4 * d .reclen ≤ a → a + n ≤ 4 * freeOf d → Beside a n (4 * slotNew) (4 * d .lind) → part new a n ≡ part file a n
   stays a n l m b =
       let low = x .admitted .settled .reclen-low in
-      frame file d addresses h x a n m (inr (omega arith))
+      frame file d addresses h x a n (inl m) (inr (omega arith))
       (λ q. (inr (omega arith), inr (omega (arith, nex-more d (x .admitted .settled) (x .extensible) q .1)))) b
 
   -- ---- an entry
@@ -122,6 +125,9 @@ module _ (file : List ℕ) (d : DescriptorNumbers) (addresses : List RecordNumbe
     abbrev nword : ℕ
     nword = enteredOf file d addresses e .nword
 
+    abbrev nsec : ℕ
+    nsec = enteredOf file d addresses e .nsec
+
     -- where the new slot does not meet it, all of it stays
     pub agrees : Beside start nword slotNew (d .lind) → Agrees file new d then addresses areasThen e
     agrees clear =
@@ -130,17 +136,29 @@ module _ (file : List ℕ) (d : DescriptorNumbers) (addresses : List RecordNumbe
         let inside = slot-inside (length file) d addresses (x .admitted) e (o .number-low) (o .number-high) in
         let low = slot-low (length file) d addresses (x .admitted) e (o .number-low) (o .number-high) in
         record {
-          admitted = x .admitted;
-          opens = opens;
-          reclen = reclen-same;
-          lind = lind-same;
-          entries = omega (arith, entries-grow);
-          free = free-grows;
-          slot = slot-stays e (o .number-low) (o .number-high);
-          index = stays (4 * slot) (4 * d .lind) (omega arith) (omega arith) (inl (omega (arith, slots-beside e (o .number-low) (o .number-high))));
-          same = stays (4 * start) (4 * nword) (omega (arith, opened-behind file d addresses (x .admitted) e opens)) (omega (arith, opened-free file d addresses (x .admitted) e opens)) (wide clear);
+          described = record {
+            admitted = x .admitted;
+            opens = opens;
+            reclen = reclen-same;
+            lind = lind-same;
+            entries = omega (arith, entries-grow);
+            free = free-grows;
+            slot = slot-stays e (o .number-low) (o .number-high);
+            index = stays (4 * slot) (4 * d .lind) (omega arith) (omega arith) (inl (omega (arith, slots-beside e (o .number-low) (o .number-high))));
+            same = bytes-same new file start nword words-stay (4 * start) (4 * descriptorWords nsec) (omega arith) (omega (arith, descriptor-fits));
+          };
+          same = words-stay;
         }
       where
         wide : Beside start nword slotNew (d .lind) → Beside (4 * start) (4 * nword) (4 * slotNew) (4 * d .lind)
         wide (inl l) = inl (omega arith)
         wide (inr l) = inr (omega arith)
+
+        words-stay : part new (4 * start) (4 * nword) ≡ part file (4 * start) (4 * nword)
+        words-stay =
+            stays (4 * start) (4 * nword) (omega (arith, opened-behind file d addresses (x .admitted) e opens)) (omega (arith, opened-free file d addresses (x .admitted) e opens)) (wide clear)
+
+        descriptor-fits : descriptorWords nsec ≤ nword
+        descriptor-fits =
+            let q = entered-numbers file d addresses e opens in
+            omega (arith, ap (λ (y : Entered). y .nsec) q, ap (λ (y : Entered). y .nword) q, entry-opens file d addresses e (x .admitted) opens .nword-low)

@@ -1,15 +1,14 @@
 -- What the contracts exclude. Each theorem takes any outcome of a call, for every input, that meets the call's contract. So it is ruled out that a reader or a writer
 -- refuses everything, that an open gives one fixed entry, that an append answers a number and writes nothing or stores only the first entry, and that a listing has a
 -- made-up number of entries. Assumes nothing.
-use Prim.Native.Nat.{ℕ, _+_, _≤_}
+use Prim.Native.Nat.{ℕ, _+_, _≤_, _<_}
 use mathlib.Core.Path.{_≡_, refl, sym, ap, _∙_}
-use mathlib.Core.List.{List, _++_}
+use mathlib.Core.List.{List, [], _∷_, append-nil}
 use native.Mathlib.Omega.{arith}
-use borrow.Author.Tests.{eqb-true, le-leb}
+use borrow.Author.Tests.{eqb-true}
 use lib.Dec.{eqb}
-use lib.ListN.{length, length-append}
+use lib.ListN.{length, take, length-append}
 use Rattle.outcome.specs.Outcome.{Answers}
-use Rattle.image.specs.Image.{splice}
 use Rattle.geometry.specs.declared.units.EntryNumber.{EntryNumber}
 use Rattle.geometry.specs.Units.{entriesBefore}
 use Rattle.descriptor.specs.declared.numbers.Settings.{Settings}
@@ -17,31 +16,36 @@ use Rattle.descriptor.specs.declared.validating.Validation.{Validation}
 use Rattle.descriptor.specs.Refusal.{AllHold}
 use Rattle.descriptor.specs.FirstRecord.{numbersOf, addressesOf}
 use Rattle.descriptor.specs.Rules.{fileRefusal}
-use Rattle.descriptor.specs.Answers.{validationOf}
+use Rattle.descriptor.specs.Answers.{validationOf, validatedCase}
 use Rattle.descriptor.proofs.Answered.{answer-numbers, answer-refused}
 use Rattle.entry.specs.declared.answers.Opened.{Opened}
-use Rattle.entry.specs.Answers.{openOf, numberOf}
+use Rattle.entry.specs.Answers.{openOf, openCase}
 use Rattle.writer.specs.declared.appending.Appended.{Appended}
 use Rattle.writer.specs.Creation.{Creates}
 use Rattle.writer.specs.Handed.{Handed, Integers}
 use Rattle.writer.specs.Answers.{appendIn, appendOf, Appends}
-use Rattle.writer.proofs.Kept.{either}
+use Rattle.outcome.proofs.Either.{either}
 use Rattle.listing.specs.Text.{joined}
-use Rattle.listing.specs.Buffer.{filledBy}
-use Rattle.listing.specs.Listing.{header, rowsOf, entriesListing, listingIn, listingOf, Lists}
+use Rattle.listing.specs.Listing.{listingOf, overLimit, outputOf, Lists, Prints}
+use Rattle.listing.specs.Lines.{linesIn, AllLines, listingLines, LeavesLines}
 use Rattle.listing.proofs.Lines.{rows-count}
-use Rattle.promises.specs.Contents.{holds, readingOf, entriesIn, contents}
+use Rattle.listing.proofs.Listings.{fit-count, fit-filled, output-within, output-over}
+use Rattle.listing.proofs.Room.{room}
+use Rattle.promises.specs.Contents.{entriesOf, holds, readingOf, contents}
 use Rattle.promises.specs.Calls.{Call, AllFit, run, answers, handedContent, accepted}
 use Rattle.promises.specs.Tables.{validateTests, createTests, openTests, appendTests}
-use Rattle.promises.specs.Demand.{Start, entriesOf}
-use Rattle.promises.specs.Examples.{entry, withSection, withoutSection, sectionsIn}
+use Rattle.promises.specs.Demand.{Start}
+use Rattle.promises.specs.FileA.{A}
+use Rattle.promises.specs.Examples.{entry, withSection, withoutSection, Differ}
 use Rattle.promises.proofs.Readings.{length-contents}
+use Rattle.promises.proofs.Series.{after-accepted}
 use Rattle.promises.proofs.AppendNumbers.{answer-there, number-there}
-use Rattle.promises.proofs.AppendAdds.{reading-new}
-use Rattle.promises.proofs.Demand3.{start-ordered, demand-3}
+use Rattle.promises.proofs.NewEntry.{reading-new}
+use Rattle.promises.proofs.Demand3.{demand-3}
 use Rattle.promises.proofs.OrderPassed.{check-passed}
 use Rattle.promises.proofs.RefusalMeans.{validate-means, create-means, open-means, append-means}
-use Rattle.promises.proofs.WorkedExamples.{first-entries}
+use Rattle.promises.proofs.WorkedExamples.{first-entries, entries-differ}
+use Rattle.promises.proofs.ListedLines.{over-line, listing-each, listing-joined, leaves-lines}
 
 -- ---- a reader that refuses everything
 
@@ -54,16 +58,22 @@ module _ (read : List ℕ → Validation) (meets : (file : List ℕ) → Answers
 
 module _ (enter : List ℕ → EntryNumber → Opened) (meets : (file : List ℕ) (e : EntryNumber) → Answers (openOf file e) (enter file e)) where
   -- every entry whose tests all hold opens
-  pub opens-good-entries : (file : List ℕ) (e : EntryNumber) → AllHold (openTests file e) → numberOf (enter file e .answer) ≡ 0
-  opens-good-entries file e all = ap (λ (o : Opened). numberOf (o .answer)) (meets file e) ∙ open-means file e .accepted all
+  pub opens-good-entries : (file : List ℕ) (e : EntryNumber) → AllHold (openTests file e) → openCase (enter file e .answer) .refusal ≡ 0
+  opens-good-entries file e all = ap (λ (o : Opened). openCase (o .answer) .refusal) (meets file e) ∙ open-means file e .accepted all
 
-  -- the first entries of two files that open are not one and the same: one has a section, the other has none
+  -- two entries that open, of which one has a section and the other has none, are not one and the same
+  told-apart : (file other : List ℕ) (e f : EntryNumber) → Differ (openOf file e .answer) (openOf other f .answer) → enter file e ≡ enter other f → ⊥
+  told-apart file other e f differ same =
+      let equal = ap (λ (o : Opened). openCase (o .answer) .nsec) (sym (meets file e) ∙ same ∙ meets other f) in
+      omega (arith, differ .0, differ .1, equal)
+
+  -- such are the first entries of two files
   pub opens-differ : enter withSection (entry 1) ≡ enter withoutSection (entry 1) → ⊥
-  opens-differ same =
-      let one = first-entries .0 in
-      let none = first-entries .1 in
-      let equal = ap (λ (o : Opened). sectionsIn (o .answer)) (sym (meets withSection (entry 1)) ∙ same ∙ meets withoutSection (entry 1)) in
-      omega (arith, one, none, equal)
+  opens-differ = told-apart withSection withoutSection (entry 1) (entry 1) first-entries
+
+  -- and entries 1 and 2 of one file, file A
+  pub opens-of-one-file-differ : enter A (entry 1) ≡ enter A (entry 2) → ⊥
+  opens-of-one-file-differ = told-apart A A (entry 1) (entry 2) entries-differ
 
 -- ---- a writer that refuses everything
 
@@ -104,32 +114,64 @@ module _ (answer : List ℕ → Handed → Appended) (after : List ℕ → Hande
 
 -- ---- a listing with a made-up number of entries
 
--- the rows of a file's listing
-abbrev rowsThere : List ℕ → List (List ℕ)
-rowsThere file = rowsOf file (numbersOf file) (addressesOf file (numbersOf file .nex))
+-- an admitted file's listing has a line for the header, and one for each of its xnext - 1 entries
+lines-there : (file : List ℕ) → length (listingLines file) ≡ 1 + entriesBefore (numbersOf file .xnext)
+lines-there file = omega (arith, rows-count file (numbersOf file) (addressesOf file (numbersOf file .nex)))
 
--- there are xnext - 1 of them
-rows-there : (file : List ℕ) → fileRefusal file ≡ 0 → length (rowsThere file) ≡ entriesOf file
-rows-there file z =
-    rows-count file (numbersOf file) (addressesOf file (numbersOf file .nex)) ∙ sym (ap (λ (v : Validation). entriesIn (v .numbers)) (answer-numbers file z))
+-- after a series of calls the file is admitted, and its listing has the starting lines and one for each accepted entry
+module _ (calls : List Call) (g : AllFit calls) (file : List ℕ) (start : Start file) where
+  abbrev new : List ℕ
+  new = run calls file
+
+  admitted-then : fileRefusal new ≡ 0
+  admitted-then = check-passed new (demand-3 calls g file start .ordered) .0
+
+  lines-then : 1 + entriesBefore (numbersOf new .xnext) ≡ 1 + entriesOf file + length (accepted calls (answers calls file))
+  lines-then =
+      let given = answers calls file in
+      let kept = demand-3 calls g file start .kept ∙ after-accepted calls given (contents file) in
+      let count = sym (length-contents new) ∙ ap length kept ∙ length-append (contents file) (accepted calls given) in
+      let shown = ap (λ (v : Validation). entriesBefore (validatedCase (v .numbers) .numbers .xnext)) (answer-numbers new admitted-then) in
+      omega (arith, length-contents file, count, shown)
 
 module _ (answer : List ℕ → List ℕ → ℕ) (after : List ℕ → List ℕ → List ℕ) (meets : (file out : List ℕ) → Lists file out (answer file out) (after file out)) where
-  -- a buffer that is long enough holds the header and xnext - 1 rows
-  pub lists-all-entries : (file out : List ℕ) → fileRefusal file ≡ 0 → length (listingOf file) ≤ length out
-      → (after file out ≡ splice out 0 (header ++ joined (rowsThere file))) × (length (rowsThere file) ≡ entriesBefore (numbersOf file .xnext))
-  unfolding filledBy listingOf listingIn entriesListing
-  lists-all-entries file out z l =
-      let fits = le-leb (length (listingOf file)) (length out) l in (
-        meets file out .1 ∙ rw fits (ap (λ (v : Validation). splice out 0 (listingIn file (v .numbers) (v .addresses))) (answer-numbers file z)),
-        rows-count file (numbersOf file) (addressesOf file (numbersOf file .nex)),
-      )
+  -- a buffer that is long enough starts with the lines of the listing, as many bytes as the answer says; the bytes behind stay
+  pub lists-lines : (file out : List ℕ) → fileRefusal file ≡ 0 → length (listingOf file) ≤ length out → LeavesLines (listingLines file) out (answer file out) (after file out)
+  lists-lines file out z l =
+      leaves-lines (listingLines file) (listing-each file) (listingOf file) out (answer file out) (after file out) (listing-joined file z) l
+      (meets file out .0 ∙ fit-count (listingOf file) out l) (meets file out .1 ∙ fit-filled (listingOf file) out l)
 
-  -- and after a series of calls the starting rows and one for each accepted call
-  pub lists-accepted-calls : (calls : List Call) → AllFit calls → (file : List ℕ) → Start file
-      → length (rowsThere (run calls file)) ≡ length (rowsThere file) + length (accepted calls (answers calls file))
-  lists-accepted-calls calls g file start =
-      let promised = demand-3 calls g file start in
-      let first = check-passed file (start-ordered file start) .0 in
-      let last = check-passed (run calls file) (promised .ordered) .0 in
-      let count = sym (length-contents (run calls file)) ∙ ap length (promised .kept) ∙ length-append (contents file) (accepted calls (answers calls file)) in
-      omega (arith, rows-there file first, rows-there (run calls file) last, length-contents file, count)
+  -- so it has 1 + (xnext - 1) lines
+  pub lists-all-entries : (file out : List ℕ) → fileRefusal file ≡ 0 → length (listingOf file) ≤ length out
+      → linesIn (take (answer file out) (after file out)) ≡ 1 + entriesBefore (numbersOf file .xnext)
+  lists-all-entries file out z l = lists-lines file out z l .count ∙ lines-there file
+
+  -- and after a series of calls the starting lines and one for each accepted entry
+  pub lists-accepted-entries : (calls : List Call) → AllFit calls → (file : List ℕ) → Start file → (out : List ℕ) → length (listingOf (run calls file)) ≤ length out
+      → linesIn (take (answer (run calls file) out) (after (run calls file) out)) ≡ 1 + entriesOf file + length (accepted calls (answers calls file))
+  lists-accepted-entries calls g file start out l = lists-all-entries (run calls file) out (admitted-then calls g file start) l ∙ lines-then calls g file start
+
+-- the same of what the program prints, in a buffer that holds what is printed of any input
+module _ (answer : List ℕ → List ℕ → ℕ) (after : List ℕ → List ℕ → List ℕ) (meets : (input out : List ℕ) → Prints input out (answer input out) (after input out))
+    (out : List ℕ) (room-there : 196608 ≤ length out) where
+  prints : (input : List ℕ) (lines : List (List ℕ)) → AllLines lines → outputOf input ≡ joined lines → LeavesLines lines out (answer input out) (after input out)
+  prints input lines all e =
+      leaves-lines lines all (outputOf input) out (answer input out) (after input out) e (omega (arith, room input)) (meets input out .0) (meets input out .1)
+
+  -- an input over the limit has one line
+  pub prints-over : (input : List ℕ) → 65536 < length input → LeavesLines (overLimit ∷ []) out (answer input out) (after input out)
+  prints-over input l = prints input (overLimit ∷ []) (over-line, tt) (output-over input l ∙ sym (append-nil overLimit))
+
+  -- an admitted file has the lines of its listing
+  pub prints-lines : (input : List ℕ) → length input ≤ 65536 → fileRefusal input ≡ 0 → LeavesLines (listingLines input) out (answer input out) (after input out)
+  prints-lines input l z = prints input (listingLines input) (listing-each input) (output-within input l ∙ listing-joined input z)
+
+  -- so it has 1 + (xnext - 1) lines
+  pub prints-all-entries : (input : List ℕ) → length input ≤ 65536 → fileRefusal input ≡ 0
+      → linesIn (take (answer input out) (after input out)) ≡ 1 + entriesBefore (numbersOf input .xnext)
+  prints-all-entries input l z = prints-lines input l z .count ∙ lines-there input
+
+  -- and after a series of calls the starting lines and one for each accepted entry
+  pub prints-accepted-entries : (calls : List Call) → AllFit calls → (file : List ℕ) → Start file → length (run calls file) ≤ 65536
+      → linesIn (take (answer (run calls file) out) (after (run calls file) out)) ≡ 1 + entriesOf file + length (accepted calls (answers calls file))
+  prints-accepted-entries calls g file start l = prints-all-entries (run calls file) l (admitted-then calls g file start) ∙ lines-then calls g file start

@@ -7,9 +7,16 @@ pub mod OrderPassed
 pub mod OrderSound
 pub mod CreatedSound
 pub mod Readings
+pub mod OpenEntries
+pub mod SectionFirst
+pub mod EntryAlike
+pub mod NewEntry
 pub mod AppendAdds
 pub mod AppendNumbers
 pub mod RefusedAnswers
+pub mod Bytes
+pub mod CreateBytes
+pub mod AppendBytes
 pub mod Series
 pub mod OrderAgain
 pub mod Demand3
@@ -17,4 +24,5 @@ pub mod RefusalMeans
 pub mod CheckMeans
 pub mod WorkedExamples
 pub mod Determined
+pub mod ListedLines
 pub mod Excluded

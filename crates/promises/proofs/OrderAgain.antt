@@ -20,20 +20,23 @@ use Rattle.descriptor.specs.declared.numbers.DescriptorNumbers.{DescriptorNumbe
 use Rattle.descriptor.specs.FirstRecord.{numbersOf, addressesOf, growthIn}
 use Rattle.descriptor.proofs.Fitting.{fit-reach, fit-full}
 use Rattle.descriptor.proofs.Answered.{file-admitted}
-use Rattle.entry.specs.declared.opening.Entered.{Entered}
+use Rattle.entry.specs.declared.entered.Entered.{Entered}
 use Rattle.entry.proofs.Entering.{slot-in-use}
-use Rattle.order.specs.Order.{areaStartOf, areaEndOf, endOf, allPass, checkOf}
+use Rattle.descriptor.specs.Areas.{areaStartOf, areaEndOf}
+use Rattle.entry.specs.Opening.{endOf}
+use Rattle.order.specs.Order.{allPass, checkOf}
 use Rattle.writer.specs.Handed.{Handed, Integers}
 use Rattle.writer.specs.Placing.{full, nexAfter, numbersAfter, addressesAfter}
 use Rattle.writer.specs.Writing.{appended}
 use Rattle.writer.specs.Answers.{appendOf, fileAfter}
 use Rattle.writer.specs.Bounds.{Accepted}
 use Rattle.writer.proofs.Places.{start-low}
-use Rattle.writer.proofs.Kept.{either, nex-full, nex-kept}
+use Rattle.outcome.proofs.Either.{either}
+use Rattle.writer.proofs.Kept.{nex-full, nex-kept}
 use Rattle.writer.proofs.HandedIn.{accepted}
 use Rattle.writer.proofs.Accepting.{after, admitted-after}
-use Rattle.writer.proofs.ReadBack.{validated-after}
-use Rattle.writer.proofs.Returned.{file-after}
+use Rattle.written.proofs.ReadBack.{validated-after}
+use Rattle.written.proofs.Returned.{file-after}
 use Rattle.promises.specs.Calls.{Call, append, AllFit, run}
 use Rattle.promises.specs.Regions.{SoundIn}
 use Rattle.promises.proofs.Spread.{entryAt}

@@ -23,9 +23,11 @@ use Rattle.descriptor.proofs.Refusals.{all-hold}
 use Rattle.descriptor.proofs.Answered.{answer-numbers, answer-refused}
 use Rattle.entry.specs.Opening.{entryRefusal}
 use Rattle.entry.proofs.Entering.{entered-refusal}
-use Rattle.order.specs.declared.checking.Checked.{Checked}
-use Rattle.order.specs.Order.{areaStartOf, areaEndOf, endOf, startsInOrder, endsInOrder, orderRules, orderRefusal, allPass, checkedFrom, checkedIn, checkOf}
-use Rattle.writer.proofs.Kept.{either}
+use Rattle.order.specs.declared.answers.Checked.{Checked}
+use Rattle.descriptor.specs.Areas.{areaStartOf, areaEndOf}
+use Rattle.entry.specs.Opening.{endOf}
+use Rattle.order.specs.Order.{startsInOrder, endsInOrder, orderRules, orderRefusal, allPass, checkedFrom, checkedIn, checkOf}
+use Rattle.outcome.proofs.Either.{either}
 use Rattle.promises.proofs.Spread.{entryAt}
 
 -- the slot of entry e among those of validated numbers

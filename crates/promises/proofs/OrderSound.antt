@@ -18,7 +18,9 @@ use Rattle.descriptor.specs.Bounds.{Admitted}
 use Rattle.descriptor.proofs.Fitting.{fit-full}
 use Rattle.descriptor.proofs.Answered.{file-admitted}
 use Rattle.entry.proofs.Entering.{slot-in-use}
-use Rattle.order.specs.Order.{areaStartOf, areaEndOf, endOf, allPass, checkOf}
+use Rattle.descriptor.specs.Areas.{areaStartOf, areaEndOf}
+use Rattle.entry.specs.Opening.{endOf}
+use Rattle.order.specs.Order.{allPass, checkOf}
 use Rattle.promises.specs.Regions.{Sound}
 use Rattle.promises.proofs.Areas.{area-end-le, areas-order, area-holds}
 use Rattle.promises.proofs.Spread.{Clear, entryAt, Spread, spread-apart, opened-behind}

@@ -22,12 +22,12 @@ use Rattle.descriptor.specs.Rules.{fileRefusal}
 use Rattle.descriptor.specs.Answers.{noValidation, validationOf, extensionIn, extensionOf}
 use Rattle.descriptor.proofs.Refusals.{refusal-is, refusal-given, refusal-none, all-hold, refusal-append}
 use Rattle.descriptor.proofs.Answered.{answer-numbers, answer-refused}
-use Rattle.entry.specs.declared.opening.Entered.{Entered}
+use Rattle.entry.specs.declared.entered.Entered.{Entered}
 use Rattle.entry.specs.declared.answers.Opened.{Opened}
 use Rattle.entry.specs.declared.answers.PartPlace.{PartPlace}
 use Rattle.entry.specs.Tables.{sectionNamed}
 use Rattle.entry.specs.Opening.{entryRefusal, enteredOf, notEntered}
-use Rattle.entry.specs.Answers.{enteredIn, openedAs, openOf, numberOf, noPart, pieceFrom}
+use Rattle.entry.specs.Answers.{enteredIn, openedAs, openOf, openCase, noPart, pieceFrom}
 use Rattle.entry.specs.Answers.{indexPart, sectionPart, dataPart, partIn, indexWordsOf, sectionWordsOf, dataWordsOf}
 use Rattle.entry.proofs.Entering.{entered-refusal}
 use Rattle.writer.specs.declared.inner.AppendedFrom.{AppendedFrom}
@@ -35,7 +35,7 @@ use Rattle.writer.specs.Handed.{Handed}
 use Rattle.writer.specs.Rules.{appendRules, appendRefusal}
 use Rattle.writer.specs.Answers.{acceptedFrom, refusedFrom, appendedFrom, appendIn, appendOf}
 use Rattle.writer.specs.Creation.{creationRefusal}
-use Rattle.writer.proofs.Kept.{either}
+use Rattle.outcome.proofs.Either.{either}
 use Rattle.promises.specs.Tables.{extensionRows, entryRows, sectionRows, Exactly}
 use Rattle.promises.specs.Tables.{validateTests, createTests, extensionTests, openTests, sectionTests, appendTests}
 
@@ -129,14 +129,14 @@ module _ (file : List ℕ) where
     entry-number = entered-refusal file d addresses e
 
     -- opening
-    pub open-means : Exactly (numberOf (openOf file e .answer)) (openTests file e)
+    pub open-means : Exactly (openCase (openOf file e .answer) .refusal) (openTests file e)
     unfolding openOf openedAs enteredIn
     open-means =
-        after-file (λ v. numberOf (openedAs file (enteredIn file (v .numbers) (v .addresses) e) .answer)) (entryRows file e) (omega arith)
+        after-file (λ v. openCase (openedAs file (enteredIn file (v .numbers) (v .addresses) e) .answer) .refusal) (entryRows file e) (omega arith)
         (λ n. number (notEntered n)) (number entry ∙ entry-number)
       where
-        number : (x : Entered) → numberOf (openedAs file x .answer) ≡ x .refusal
-        number x = chosen (λ (o : Opened). numberOf (o .answer)) (x .refusal) _ _ refl refl
+        number : (x : Entered) → openCase (openedAs file x .answer) .refusal ≡ x .refusal
+        number x = chosen (λ (o : Opened). openCase (o .answer) .refusal) (x .refusal) _ _ refl refl
 
     -- index words
     pub index-words-means : Exactly (indexWordsOf file e .refusal) (openTests file e)

@@ -18,18 +18,18 @@ use Rattle.descriptor.specs.declared.validating.Validated.{Validated}
 use Rattle.descriptor.specs.declared.validating.Validated.the-variants.{Numbers, Refused}
 use Rattle.descriptor.specs.Rules.{fileRefusal}
 use Rattle.descriptor.specs.Answers.{noValidation, validationOf, noExtension, extensionIn, extensionOf}
-use Rattle.entry.specs.declared.opening.Entered.{Entered}
+use Rattle.entry.specs.declared.entered.Entered.{Entered}
 use Rattle.entry.specs.declared.answers.Open.the-variants as answers
 use Rattle.entry.specs.declared.answers.PartPlace.{PartPlace}
 use Rattle.entry.specs.Tables.{sectionNamed}
 use Rattle.entry.specs.Opening.{enteredOf}
-use Rattle.entry.specs.Answers.{enteredIn, noSections, openedAs, openOf, numberOf, noPart, bytesOf}
+use Rattle.entry.specs.Answers.{enteredIn, noSections, openedAs, openOf, openCase, noPart, bytesOf}
 use Rattle.entry.specs.Answers.{indexPart, sectionPart, dataPart, partIn, indexWordsOf, sectionWordsOf, dataWordsOf}
 use Rattle.writer.specs.Handed.{Handed}
 use Rattle.writer.specs.Rules.{appendRefusal}
 use Rattle.writer.specs.Answers.{appendedFrom, fileFrom, appendIn, fileIn, appendOf, fileAfter}
 use Rattle.writer.specs.Creation.{creationRefusal, createdFile}
-use Rattle.writer.proofs.Kept.{either}
+use Rattle.outcome.proofs.Either.{either}
 
 -- ---- validating, and an extension
 
@@ -52,8 +52,8 @@ extension-refused file k = by (validationOf file .numbers)
 -- ---- opening, and the parts of an entry
 
 -- a refused open: the number, and tables of zeros
-pub open-refused : (file : List ℕ) (e : EntryNumber) → (numberOf (openOf file e .answer) ≡ 0 → ⊥)
-    → openOf file e ≡ record { answer = answers.Refused (numberOf (openOf file e .answer)); sections = noSections }
+pub open-refused : (file : List ℕ) (e : EntryNumber) → (openCase (openOf file e .answer) .refusal ≡ 0 → ⊥)
+    → openOf file e ≡ record { answer = answers.Refused (openCase (openOf file e .answer) .refusal); sections = noSections }
 unfolding openOf openedAs
 open-refused file e f =
     let x = enteredIn file (validationOf file .numbers) (validationOf file .addresses) e in

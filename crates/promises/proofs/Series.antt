@@ -1,7 +1,7 @@
 -- Demand 3. From a sound file, after any series of calls, accepted or refused: going through the numbers gives the starting entries and then every accepted one,
--- once, in order, unchanged; the k-th accepted call answers n + k; and the file is sound again, so no two of its regions share a word. Assumes nothing.
-use Prim.Native.Nat.{ℕ, _+_}
-use mathlib.Core.Path.{_≡_, refl, sym, ap, ap₂, subst, _∙_}
+-- once, in order, unchanged; every starting entry is as it was; the k-th accepted call answers n + k; and the file is sound again. Assumes nothing.
+use Prim.Native.Nat.{ℕ, _+_, _≤_}
+use mathlib.Core.Path.{_≡_, refl, sym, ap, subst, _∙_}
 use mathlib.Core.Bool.{Bool, true, false, cond}
 use mathlib.Core.List.{List, [], _∷_, _++_, append-assoc, append-nil}
 use native.Mathlib.Omega.{arith}
@@ -9,45 +9,82 @@ use borrow.Author.Tests.{eqb-true, eqb-false}
 use lib.Dec.{eqb}
 use lib.ListN.{length, length-append}
 use Rattle.geometry.specs.declared.units.EntryNumber.{EntryNumber}
+use Rattle.geometry.specs.Units.{entriesBefore}
 use Rattle.descriptor.specs.declared.validating.Validation.{Validation}
+use Rattle.descriptor.specs.FirstRecord.{numbersOf}
+use Rattle.descriptor.specs.Answers.{validatedCase}
 use Rattle.descriptor.proofs.Answered.{answer-numbers, file-admitted}
 use Rattle.writer.specs.Handed.{Handed, Integers}
 use Rattle.writer.specs.Answers.{appendOf, fileAfter}
-use Rattle.writer.proofs.Kept.{either}
-use Rattle.promises.specs.Contents.{Reading, holds, entriesIn, contents}
-use Rattle.promises.specs.Calls.{Call, append, Fits, AllFit, answerOf, afterCall, run, answers, handedContent, added, accepted, numbersGiven, following}
+use Rattle.outcome.proofs.Either.{either}
+use Rattle.promises.specs.Contents.{entriesOf, Reading, holds, contents, Unchanged}
+use Rattle.promises.specs.Calls.{Call, append, Fits, AllFit, Answer, answerOf, afterCall, run, answers, handedContent, added, contentsAfter, contentsAfterAll, accepted, numbersGiven, following}
 use Rattle.promises.specs.Regions.{Sound}
-use Rattle.promises.specs.Demand.{entriesOf}
 use Rattle.promises.proofs.Readings.{length-contents}
 use Rattle.promises.proofs.AppendNumbers.{refusalThere, answer-there, number-there}
 use Rattle.promises.proofs.RefusedAnswers.{append-kept}
-use Rattle.promises.proofs.AppendAdds.{append-sound, append-contents}
+use Rattle.promises.proofs.AppendAdds.{append-sound, append-stays, append-contents}
+
+-- the entries of an admitted file
+pub entries-shown : (file : List ℕ) → Sound file → entriesOf file ≡ entriesBefore (numbersOf file .xnext)
+entries-shown file s = ap (λ (v : Validation). entriesBefore (validatedCase (v .numbers) .numbers .xnext)) (answer-numbers file (s .admitted))
+
+-- an entry of a file is unchanged in it, and stays so from file to file
+unchanged-self : (file : List ℕ) (e : EntryNumber) → Unchanged file file e
+unchanged-self file e = record { opened = refl; started = refl; slotted = refl; slot = refl; words = refl }
+
+unchanged-on : {f g h : List ℕ} {e : EntryNumber} → Unchanged f g e → Unchanged g h e → Unchanged f h e
+unchanged-on p q = record {
+  opened = q .opened ∙ p .opened;
+  started = q .started ∙ p .started;
+  slotted = q .slotted ∙ p .slotted;
+  slot = q .slot ∙ p .slot;
+  words = q .words ∙ p .words;
+}
 
 -- ---- one call
 
 module _ (file : List ℕ) (s : Sound file) (h : Handed) (g : Integers h) where
   -- accepted, or refused
-  by-answer {ℓ} : {X : Type ℓ} → (refusalThere file h ≡ 0 → eqb (appendOf file h .refusal) 0 ≡ true → X) → (eqb (appendOf file h .refusal) 0 ≡ false → X) → X
+  by-answer {ℓ} : {X : Type ℓ} → (refusalThere file h ≡ 0 → eqb (appendOf file h .refusal) 0 ≡ true → X) → (fileAfter file h ≡ file → eqb (appendOf file h .refusal) 0 ≡ false → X) → X
   by-answer f k =
       either (eqb (appendOf file h .refusal) 0)
-      (λ q. f (sym (answer-there file h (s .admitted)) ∙ eqb-true (appendOf file h .refusal) 0 q) q) k
+      (λ q. f (sym (answer-there file h (s .admitted)) ∙ eqb-true (appendOf file h .refusal) 0 q) q)
+      (λ q. k (append-kept file h (eqb-false (appendOf file h .refusal) 0 q)) q)
 
   sound-append : Sound (fileAfter file h)
-  sound-append = by-answer (λ a q. append-sound file h g s a) (λ q. subst Sound (sym (append-kept file h (eqb-false (appendOf file h .refusal) 0 q))) s)
+  sound-append = by-answer (λ a q. append-sound file h g s a) (λ same q. subst Sound (sym same) s)
 
-  contents-append : contents (fileAfter file h) ≡ contents file ++ added (append h) (appendOf file h)
+  contents-append : contents (fileAfter file h) ≡ contents file ++ cond (eqb (appendOf file h .refusal) 0) (holds (handedContent h) ∷ []) []
   contents-append =
       by-answer
-      (λ a q. append-contents file h g s a ∙ sym (ap (λ (b : Bool). contents file ++ cond b (holds (handedContent h) ∷ []) []) q))
-      (λ q. ap contents (append-kept file h (eqb-false (appendOf file h .refusal) 0 q))
-      ∙ sym (append-nil (contents file))
-      ∙ sym (ap (λ (b : Bool). contents file ++ cond b (holds (handedContent h) ∷ []) []) q))
+      (λ a q. rw q (append-contents file h g s a))
+      (λ same q. rw q (ap contents same ∙ sym (append-nil (contents file))))
 
+  stays-append : (e : ℕ) → 1 ≤ e → e ≤ entriesOf file → Unchanged file (fileAfter file h) (record { 0 = e })
+  stays-append e l m =
+      by-answer
+      (λ a q. append-stays file h g s a e l (omega (arith, entries-shown file s)))
+      (λ same q. subst (λ (f : List ℕ). Unchanged file f (record { 0 = e })) (sym same) (unchanged-self file (record { 0 = e })))
+
+  -- an accepted one answers n + 1
+  number-append : eqb (appendOf file h .refusal) 0 ≡ true → appendOf file h .number .0 ≡ entriesOf file + 1
+  number-append q =
+      let z = s .admitted in
+      let a = sym (answer-there file h z) ∙ eqb-true (appendOf file h .refusal) 0 q in
+      omega (arith, entries-shown file s, ap (λ (n : EntryNumber). n .0) (number-there file h z a), file-admitted file z .counted)
+
+-- the file is sound again
 pub step-sound : (file : List ℕ) → Sound file → (c : Call) → Fits c → Sound (afterCall file c)
 step-sound file s (append h) g = sound-append file s h g
 
-pub step-contents : (file : List ℕ) → Sound file → (c : Call) → Fits c → contents (afterCall file c) ≡ contents file ++ added c (answerOf file c)
+-- its contents are those that the call leaves
+pub step-contents : (file : List ℕ) → Sound file → (c : Call) → Fits c → contents (afterCall file c) ≡ contentsAfter c (answerOf file c) (contents file)
 step-contents file s (append h) g = contents-append file s h g
+
+-- and its entries are as they were
+pub step-stays : (file : List ℕ) → Sound file → (c : Call) → Fits c → (e : ℕ) → 1 ≤ e → e ≤ entriesOf file → Unchanged file (afterCall file c) (record { 0 = e })
+step-stays file s (append h) g = stays-append file s h g
 
 -- ---- a series of calls
 
@@ -56,27 +93,42 @@ pub run-sound : (calls : List Call) → AllFit calls → (file : List ℕ) → S
 run-sound [] g file s = s
 run-sound (c ∷ cs) g file s = run-sound cs (g .1) (afterCall file c) (step-sound file s c (g .0))
 
--- the starting entries, and then every accepted one, once, in order, unchanged
-pub run-contents : (calls : List Call) → AllFit calls → (file : List ℕ) → Sound file → contents (run calls file) ≡ contents file ++ accepted calls (answers calls file)
-run-contents [] g file s = sym (append-nil (contents file))
+-- its contents are those that the calls leave, one after the other
+pub run-contents : (calls : List Call) → AllFit calls → (file : List ℕ) → Sound file → contents (run calls file) ≡ contentsAfterAll calls (answers calls file) (contents file)
+run-contents [] g file s = refl
 run-contents (c ∷ cs) g file s =
     let next = afterCall file c in
     run-contents cs (g .1) next (step-sound file s c (g .0))
-    ∙ ap (λ (l : List Reading). l ++ accepted cs (answers cs next)) (step-contents file s c (g .0))
-    ∙ append-assoc (contents file) (added c (answerOf file c)) (accepted cs (answers cs next))
+    ∙ ap (contentsAfterAll cs (answers cs next)) (step-contents file s c (g .0))
+
+-- which are the starting ones, and then every accepted one
+pub after-accepted : (calls : List Call) (given : List Answer) (readings : List Reading) → contentsAfterAll calls given readings ≡ readings ++ accepted calls given
+after-accepted [] given readings = sym (append-nil readings)
+after-accepted (c ∷ cs) [] readings = sym (append-nil readings)
+after-accepted (append h ∷ cs) (a ∷ given) readings =
+    after-accepted cs given (readings ++ added (append h) a) ∙ append-assoc readings (added (append h) a) (accepted cs given)
+
+-- ---- the entries that were there
+
+step-count : (file : List ℕ) → Sound file → (c : Call) → Fits c → entriesOf (afterCall file c) ≡ entriesOf file + length (added c (answerOf file c))
+step-count file s (append h) g =
+    sym (length-contents (fileAfter file h))
+    ∙ ap length (contents-append file s h g)
+    ∙ length-append (contents file) (added (append h) (answerOf file (append h)))
+    ∙ ap (λ (n : ℕ). n + length (added (append h) (answerOf file (append h)))) (length-contents file)
+
+-- every one is as it was
+pub run-stays : (calls : List Call) → AllFit calls → (file : List ℕ) → Sound file → (e : ℕ) → 1 ≤ e → e ≤ entriesOf file → Unchanged file (run calls file) (record { 0 = e })
+run-stays [] g file s e l m = unchanged-self file (record { 0 = e })
+run-stays (c ∷ cs) g file s e l m =
+    unchanged-on (step-stays file s c (g .0) e l m)
+    (run-stays cs (g .1) (afterCall file c) (step-sound file s c (g .0)) e l (omega (arith, step-count file s c (g .0))))
 
 -- ---- the numbers answered
 
-step-count : (file : List ℕ) → Sound file → (c : Call) → Fits c → entriesOf (afterCall file c) ≡ entriesOf file + length (added c (answerOf file c))
-step-count file s c g =
-    sym (length-contents (afterCall file c))
-    ∙ ap length (step-contents file s c g)
-    ∙ length-append (contents file) (added c (answerOf file c))
-    ∙ ap (λ (n : ℕ). n + length (added c (answerOf file c))) (length-contents file)
-
 given-next : (b : Bool) (number n m : ℕ) (rest : List ℕ) (item : Reading) (more : List Reading) → (b ≡ true → number ≡ n + 1) → m ≡ n + length (cond b (item ∷ []) [])
-    → rest ≡ following m (length more) → cond b (number ∷ rest) rest ≡ following n (length (cond b (item ∷ []) [] ++ more))
-given-next true number n m rest item more p e r = ap₂ (λ (k : ℕ) (l : List ℕ). k ∷ l) (p refl) (r ∙ ap (λ (k : ℕ). following k (length more)) e)
+    → rest ≡ following m (length more) → cond b (number ∷ []) [] ++ rest ≡ following n (length (cond b (item ∷ []) [] ++ more))
+given-next true number n m rest item more p e r = λ i. p refl i ∷ (r ∙ ap (λ (k : ℕ). following k (length more)) e) i
 given-next false number n m rest item more p e r = let q : m ≡ n = omega arith in r ∙ ap (λ (k : ℕ). following k (length more)) q
 
 -- the k-th accepted call answers n + k
@@ -86,12 +138,5 @@ run-numbers [] g file s = refl
 run-numbers (append h ∷ cs) g file s =
     let next = fileAfter file h in
     given-next (eqb (appendOf file h .refusal) 0) (appendOf file h .number .0) (entriesOf file) (entriesOf next) (numbersGiven (answers cs next))
-    (holds (handedContent h)) (accepted cs (answers cs next)) number (step-count file s (append h) (g .0)) (run-numbers cs (g .1) next (sound-append file s h (g .0)))
-  where
-    number : eqb (appendOf file h .refusal) 0 ≡ true → appendOf file h .number .0 ≡ entriesOf file + 1
-    number q =
-        let z = s .admitted in
-        let a = sym (answer-there file h z) ∙ eqb-true (appendOf file h .refusal) 0 q in
-        let e = ap (λ (v : Validation). entriesIn (v .numbers)) (answer-numbers file z) in
-        let f = ap (λ (n : EntryNumber). n .0) (number-there file h z a) in
-        omega (arith, e, f, file-admitted file z .counted)
+    (holds (handedContent h)) (accepted cs (answers cs next)) (number-append file s h (g .0)) (step-count file s (append h) (g .0))
+    (run-numbers cs (g .1) next (sound-append file s h (g .0)))

@@ -17,21 +17,24 @@ use Rattle.geometry.specs.Area.{slotOf}
 use Rattle.geometry.proofs.Slots.{slot-within}
 use Rattle.descriptor.specs.declared.numbers.DescriptorNumbers.{DescriptorNumbers}
 use Rattle.descriptor.specs.FirstRecord.{aexOf, growthIn, freeOf}
-use Rattle.entry.specs.declared.opening.Entered.{Entered}
+use Rattle.entry.specs.declared.entered.Entered.{Entered}
 use Rattle.entry.specs.Opening.{slotPositionOf, entryRefusal, enteredOf}
 use Rattle.entry.proofs.Entering.{slot-in-use}
-use Rattle.entry.proofs.Agreeing.{Agrees, opens-there, entered-there}
-use Rattle.order.specs.Order.{areaStartOf, areaEndOf, endOf}
+use Rattle.alike.proofs.Described.{opens-there, entered-there}
+use Rattle.alike.proofs.Agreeing.{Agrees}
+use Rattle.descriptor.specs.Areas.{areaStartOf, areaEndOf}
+use Rattle.entry.specs.Opening.{endOf}
 use Rattle.writer.specs.Handed.{Handed, nwordIn}
 use Rattle.writer.specs.Placing.{full, entryStart, nexAfter, numbersAfter, addressesAfter}
 use Rattle.writer.specs.Writing.{appended}
 use Rattle.writer.specs.Bounds.{Accepted}
 use Rattle.writer.proofs.Places.{new-low, start-low}
-use Rattle.writer.proofs.Kept.{either, nex-full, nex-kept, addresses-kept, address-new, area-ends-after, after-same, after-agree}
-use Rattle.writer.proofs.Frame.{Beside}
+use Rattle.outcome.proofs.Either.{either}
+use Rattle.writer.proofs.Kept.{nex-full, nex-kept, addresses-kept, address-new, area-ends-after, after-same, after-agree}
+use Rattle.written.proofs.Frame.{Beside}
 use Rattle.writer.proofs.Accepting.{after, admitted-after, number-last, slotThen}
-use Rattle.writer.proofs.Admitting.{first-free}
-use Rattle.writer.proofs.Reopened.{not-refused, entered-new}
+use Rattle.descriptor.proofs.Admitting.{first-free}
+use Rattle.written.proofs.Reopened.{not-refused, entered-new}
 use Rattle.promises.specs.Regions.{SoundIn}
 use Rattle.promises.proofs.Areas.{area-end-le, area-holds}
 use Rattle.promises.proofs.Spread.{Clear, clear-by, entryAt, Spread, opened-behind, opened-free, spread-apart, apart-area, apart-entry}
@@ -83,7 +86,7 @@ module _ (file : List ℕ) (d : DescriptorNumbers) (addresses : List RecordNumbe
     unfolding numbersAfter
     area-to =
         let q = after-same d (entryStart d + nwordIn h) areasThen k ∙ after-agree d areasThen addresses k (λ o. address-same) in
-        ap (λ (r : ℕ). positionOf (d .reclen) (record { 0 = r }) (record { 0 = 1 })) q
+        ap (λ (r : RecordNumber). positionOf (d .reclen) r (record { 0 = 1 })) q
 
   -- a new one starts at or after the next free position
   pub area-new : full d ≡ true → freeOf d ≤ areaStartOf then areasThen (d .nex + 1)
@@ -106,7 +109,7 @@ module _ (file : List ℕ) (d : DescriptorNumbers) (addresses : List RecordNumbe
       let q = after-same d (entryStart d + nwordIn h) areasThen (nexAfter d) in
       omega (
         arith,
-        ap (λ (r : ℕ). positionOf (d .reclen) (record { 0 = r }) (record { 0 = 1 })) q,
+        ap (λ (r : RecordNumber). positionOf (d .reclen) r (record { 0 = 1 })) q,
         area-ends-after (length file) d addresses (x .admitted) (x .extensible),
       )
 
@@ -174,7 +177,7 @@ module _ (file : List ℕ) (d : DescriptorNumbers) (addresses : List RecordNumbe
     entry-agrees = agrees file d addresses h x (record { 0 = e }) opens slot-clear
 
     pub entry-same : entryAt new then areasThen e ≡ old
-    entry-same = entered-there file new d then addresses areasThen (record { 0 = e }) entry-agrees
+    entry-same = entered-there file new d then addresses areasThen (record { 0 = e }) (entry-agrees .described)
 
   -- ---- the new entry
 
@@ -233,7 +236,7 @@ module _ (file : List ℕ) (d : DescriptorNumbers) (addresses : List RecordNumbe
     pub opens-then : (e : ℕ) → 1 ≤ e → e ≤ entriesBefore (then .xnext) → entryRefusal new then areasThen (record { 0 = e }) ≡ 0
     opens-then e l m =
         by-last n e (omega (arith, entries-then))
-        (λ o. opens-there file new d then addresses areasThen (record { 0 = e }) (entry-agrees e l o))
+        (λ o. opens-there file new d then addresses areasThen (record { 0 = e }) (entry-agrees e l o .described))
         (λ o. ap (λ (j : ℕ). entryRefusal new then areasThen (record { 0 = j })) o
         ∙ ap (entryRefusal new then areasThen) number-new
         ∙ not-refused file d addresses h x)

@@ -17,10 +17,11 @@ use Rattle.descriptor.specs.FirstRecord.{freeOf}
 use Rattle.descriptor.specs.Bounds.{Admitted}
 use Rattle.descriptor.specs.Answers.{validationOf}
 use Rattle.descriptor.proofs.Answered.{told}
-use Rattle.entry.specs.declared.opening.Entered.{Entered}
-use Rattle.entry.specs.Opening.{slotPositionOf, placeOf, entryRefusal, enteredOf}
+use Rattle.entry.specs.declared.entered.Entered.{Entered}
+use Rattle.entry.specs.Opening.{slotPositionOf, placeStored, entryRefusal, enteredOf}
 use Rattle.entry.proofs.Entering.{entry-opens, entered-numbers}
-use Rattle.order.specs.Order.{areaStartOf, areaEndOf, endOf}
+use Rattle.descriptor.specs.Areas.{areaStartOf, areaEndOf}
+use Rattle.entry.specs.Opening.{endOf}
 use Rattle.promises.specs.Regions.{firstRecord, area, entry, fromOf, toOf, NoneShared, SoundIn, Sound}
 use Rattle.promises.proofs.Areas.{area-behind, areas-order}
 
@@ -54,7 +55,7 @@ module _ (file : List ℕ) (d : DescriptorNumbers) (addresses : List RecordNumbe
   unfolding positionOf
   opened-behind =
       let o = entry-opens file d addresses e a opens in
-      let some : 1 ≤ placeOf file (slotPositionOf d addresses e) .«record» .0 - 1 = omega (arith, o .record-low) in
+      let some : 1 ≤ placeStored file (slotPositionOf d addresses e) .«record» .0 - 1 = omega (arith, o .record-low) in
       omega (arith, ap (λ (y : Entered). y .start) (entered-numbers file d addresses e opens), mul-le-mul-right (d .reclen) some)
 
   pub opened-free : endOf (enteredOf file d addresses e) ≤ freeOf d

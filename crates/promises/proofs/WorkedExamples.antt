@@ -1,5 +1,5 @@
 -- The examples that 01 works by hand, P1 to P12, hold of the definitions: by computing. Assumes nothing.
-use mathlib.Core.Path.{_≡_, refl}
+use mathlib.Core.Path.{refl}
 use Rattle.image.specs.Image.{part, splice, zeros}
 use Rattle.words.specs.Word.{number, numeral, bitsAt}
 use Rattle.words.specs.Range.{within, atLeast}
@@ -7,52 +7,54 @@ use Rattle.words.specs.Code.{sameBytes}
 use Rattle.geometry.specs.Units.{positionOf, placeOf}
 use Rattle.geometry.specs.Growth.{capacityOf, totalOf, overOf}
 use Rattle.geometry.specs.Area.{recordsFor, extensionFor, slotOf}
-use Rattle.descriptor.specs.FirstRecord as first
-use Rattle.descriptor.specs.FirstRecord.{field4, field8, numbersOf, createdOf, mexOf}
-use Rattle.descriptor.specs.Rules.{entriesFit, areaAfter, areasStart, areasEnd, fileRefusal}
+use Rattle.descriptor.specs.FirstRecord.{fileCodeOf, field4, field8, numbersOf, createdOf, addressesOf, mexOf}
+use Rattle.descriptor.specs.Areas.{areaAfter, areasStart, areasEnd}
+use Rattle.descriptor.specs.Rules.{entriesFit, fileRefusal}
 use Rattle.descriptor.specs.Answers.{validationOf}
-use Rattle.entry.specs.EntryDescriptor as descriptor
-use Rattle.entry.specs.EntryDescriptor.{word4, word8, sectionOf, dataOf}
+use Rattle.entry.specs.EntryDescriptor.{entryCodeOf, word4, word8, sectionOf, dataOf}
 use Rattle.entry.specs.Contents.{pieceWithin, dataWithin, sectionsWithin, apart, apartFrom, sectionsApart, dataApart}
-use Rattle.entry.specs.Tables as tables
-use Rattle.entry.specs.Tables.{identifiersOf, lengthsOf, sectionsOf, sameInteger, sectionNamed}
-use Rattle.entry.specs.Opening as opening
-use Rattle.entry.specs.Opening.{slotPositionOf, entryRefusal, enteredOf}
-use Rattle.entry.specs.Answers.{enteredIn, openedAs, openOf, numberOf, sectionPart, dataPart, partIn}
+use Rattle.entry.specs.Tables.{sectionIdentifiers, sectionLengths, sectionAddresses, sectionsOf, sameInteger, sectionNamed}
+use Rattle.entry.specs.Opening.{placeStored, slotPositionOf, entryRefusal, enteredOf}
+use Rattle.entry.specs.Answers.{enteredIn, openedAs, openOf, sectionPart, dataPart, partIn}
 use Rattle.writer.specs.Creation.{firstWritten, creationRefusal, createdFile}
 use Rattle.writer.specs.Handed.{absent, distinct, positive}
 use Rattle.writer.specs.Placing.{full, newArea, afterNewArea, entryStart, nexAfter, numbersAfter, addressesAfter}
 use Rattle.writer.specs.Rules.{appendRefusal}
 use Rattle.writer.specs.Writing.{headFrom, areaWritten, entryWritten, indexWritten, appended}
 use Rattle.writer.specs.Answers.{appendedFrom, fileFrom, appendIn, fileIn}
-use Rattle.promises.specs.Examples.{AllMatch, examples, entry, withSection, withoutSection, sectionsIn}
+use Rattle.promises.specs.FileA.{A}
+use Rattle.promises.specs.Examples.{AllMatch, examples, entry, withSection, withoutSection, Differ}
 
 -- a row's proof and those of the rows behind it
 infixr 60 _&_
 _&_ : {A B : Type 0} → A → B → A × B
 a & b = (a, b)
 
--- every row of the table
-pub worked-examples : AllMatch examples
-unfolding examples
-    part splice zeros number numeral bitsAt within atLeast sameBytes
+-- what the theorems below see through: to unfold this is to unfold all that it names
+seen : Unit {0}
+unfolding part splice zeros number numeral bitsAt within atLeast sameBytes
     positionOf placeOf capacityOf totalOf overOf recordsFor extensionFor slotOf
-    first.codeOf field4 field8 numbersOf createdOf first.addressesOf mexOf entriesFit areaAfter areasStart areasEnd fileRefusal validationOf
-    descriptor.codeOf word4 word8 sectionOf dataOf pieceWithin dataWithin sectionsWithin apart apartFrom sectionsApart dataApart
-    tables.addressesOf identifiersOf lengthsOf sectionsOf sameInteger sectionNamed
-    opening.placeOf slotPositionOf entryRefusal enteredOf enteredIn openedAs openOf sectionPart dataPart partIn
+    fileCodeOf field4 field8 numbersOf createdOf addressesOf mexOf entriesFit areaAfter areasStart areasEnd fileRefusal validationOf
+    entryCodeOf word4 word8 sectionOf dataOf pieceWithin dataWithin sectionsWithin apart apartFrom sectionsApart dataApart
+    sectionAddresses sectionIdentifiers sectionLengths sectionsOf sameInteger sectionNamed
+    placeStored slotPositionOf entryRefusal enteredOf enteredIn openedAs openOf sectionPart dataPart partIn
     firstWritten creationRefusal createdFile absent distinct positive appendRefusal
     full newArea afterNewArea entryStart nexAfter numbersAfter addressesAfter
     headFrom areaWritten entryWritten indexWritten appended appendedFrom fileFrom appendIn fileIn
+seen = record {}
+
+-- every row of the table
+pub worked-examples : AllMatch examples
+unfolding examples seen
 worked-examples =
     -- P1
-    refl & refl & refl & refl & refl & refl & refl &
+    refl & refl & refl & refl & refl & refl & refl & refl & refl & refl & refl &
     -- P2
-    refl &
+    refl & refl & refl & refl &
     -- P3
-    refl &
+    refl & refl & refl &
     -- P4
-    refl & refl &
+    refl & refl & refl & refl & refl & refl & refl & refl & refl & refl & refl &
     -- P5
     refl & refl &
     -- P6
@@ -71,15 +73,12 @@ worked-examples =
     refl &
     record {}
 
--- the first entries of two files differ: both open, one has a section and the other has none
-pub first-entries : (sectionsIn (openOf withSection (entry 1) .answer) ≡ 1) × (sectionsIn (openOf withoutSection (entry 1) .answer) ≡ 0) × (numberOf (openOf withoutSection (entry 1) .answer) ≡ 0)
-unfolding part splice zeros number numeral bitsAt within atLeast sameBytes
-    positionOf placeOf capacityOf totalOf overOf recordsFor extensionFor slotOf
-    first.codeOf field4 field8 numbersOf createdOf first.addressesOf mexOf entriesFit areaAfter areasStart areasEnd fileRefusal validationOf
-    descriptor.codeOf word4 word8 sectionOf dataOf pieceWithin dataWithin sectionsWithin apart apartFrom sectionsApart dataApart
-    tables.addressesOf identifiersOf lengthsOf sectionsOf sameInteger sectionNamed
-    opening.placeOf slotPositionOf entryRefusal enteredOf enteredIn openedAs openOf sectionPart dataPart partIn
-    firstWritten creationRefusal createdFile absent distinct positive appendRefusal
-    full newArea afterNewArea entryStart nexAfter numbersAfter addressesAfter
-    headFrom areaWritten entryWritten indexWritten appended appendedFrom fileFrom appendIn fileIn
-first-entries = (refl, refl, refl)
+-- the first entries of two files differ
+pub first-entries : Differ (openOf withSection (entry 1) .answer) (openOf withoutSection (entry 1) .answer)
+unfolding seen
+first-entries = (refl, refl, refl, refl)
+
+-- and so do the first two entries of file A
+pub entries-differ : Differ (openOf A (entry 1) .answer) (openOf A (entry 2) .answer)
+unfolding seen
+entries-differ = (refl, refl, refl, refl)

@@ -1,4 +1,4 @@
--- A series of calls that change a file: what they answer, what they leave, and what was accepted.
+-- A series of calls that change a file: what they answer, what they leave in the file, and what they leave of its contents.
 use Prim.Native.Nat.{ℕ, zero, suc, _+_}
 use mathlib.Core.Bool.{cond}
 use mathlib.Core.List.{List, [], _∷_, _++_}
@@ -23,10 +23,14 @@ abbrev pub AllFit : List Call → Type 0
 AllFit [] = Unit
 AllFit (c ∷ cs) = Fits c × AllFit cs
 
--- what a call answers, and the file after it
-abbrev pub answerOf : List ℕ → Call → Appended
-answerOf file (append h) = appendOf file h
+-- what a call answers
+pub data Answer : Type 0 where
+  appended : Appended → Answer
 
+abbrev pub answerOf : List ℕ → Call → Answer
+answerOf file (append h) = appended (appendOf file h)
+
+-- the file after it
 abbrev pub afterCall : List ℕ → Call → List ℕ
 afterCall file (append h) = fileAfter file h
 
@@ -36,9 +40,11 @@ run [] file = file
 run (c ∷ cs) file = run cs (afterCall file c)
 
 -- and their answers
-abbrev pub answers : List Call → List ℕ → List Appended
+abbrev pub answers : List Call → List ℕ → List Answer
 answers [] file = []
 answers (c ∷ cs) file = answerOf file c ∷ answers cs (afterCall file c)
+
+-- ---- by arguments and answers alone
 
 -- the sections handed in: each length cut from the bytes that the lengths before it left
 abbrev pub sectionsCut : List ℤ → List ℤ → List ℕ → List Section
@@ -57,20 +63,34 @@ handedContent h = record {
   values = h .values;
 }
 
--- what a call with an answer adds: its content where the answer is no refusal. Of the file afterwards nothing is looked at
-abbrev pub added : Call → Appended → List Reading
-added (append h) a = cond (eqb (a .refusal) 0) (holds (handedContent h) ∷ []) []
+-- what a call with an answer adds: its content where the answer is no refusal
+abbrev pub added : Call → Answer → List Reading
+added (append h) (appended a) = cond (eqb (a .refusal) 0) (holds (handedContent h) ∷ []) []
 
--- what was accepted: of each call in turn, by its arguments and its answer alone
-abbrev pub accepted : List Call → List Appended → List Reading
+-- the contents that a call with an answer leaves of those before it
+abbrev pub contentsAfter : Call → Answer → List Reading → List Reading
+contentsAfter (append h) answer readings = readings ++ added (append h) answer
+
+-- and those that a series leaves, call by call
+abbrev pub contentsAfterAll : List Call → List Answer → List Reading → List Reading
+contentsAfterAll [] given readings = readings
+contentsAfterAll (c ∷ cs) [] readings = readings
+contentsAfterAll (c ∷ cs) (a ∷ given) readings = contentsAfterAll cs given (contentsAfter c a readings)
+
+-- all that a series adds
+abbrev pub accepted : List Call → List Answer → List Reading
 accepted [] given = []
 accepted (c ∷ cs) [] = []
 accepted (c ∷ cs) (a ∷ given) = added c a ++ accepted cs given
 
--- the numbers that accepted calls answered
-abbrev pub numbersGiven : List Appended → List ℕ
+-- the numbers of the new entries that a call answered
+abbrev pub newNumbers : Answer → List ℕ
+newNumbers (appended a) = cond (eqb (a .refusal) 0) (a .number .0 ∷ []) []
+
+-- and that a series did
+abbrev pub numbersGiven : List Answer → List ℕ
 numbersGiven [] = []
-numbersGiven (a ∷ given) = cond (eqb (a .refusal) 0) (a .number .0 ∷ numbersGiven given) (numbersGiven given)
+numbersGiven (a ∷ given) = newNumbers a ++ numbersGiven given
 
 -- n + 1, n + 2, .., m of them
 abbrev pub following : ℕ → ℕ → List ℕ

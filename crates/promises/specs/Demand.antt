@@ -2,17 +2,14 @@
 use Prim.Native.Nat.{ℕ, _≤_}
 use mathlib.Core.Path.{_≡_}
 use mathlib.Core.Logic.{_⊎_}
-use mathlib.Core.List.{List, _++_}
+use mathlib.Core.List.{List}
 use lib.ListN.{length}
 use Rattle.descriptor.specs.declared.numbers.Settings.{Settings}
 use Rattle.descriptor.specs.FirstRecord.{numbersOf, addressesOf}
-use Rattle.descriptor.specs.Answers.{validationOf}
-use Rattle.entry.specs.Answers.{openOf, numberOf}
 use Rattle.order.specs.Order.{allPass, checkOf}
-use Rattle.writer.specs.declared.appending.Appended.{Appended}
 use Rattle.writer.specs.Creation.{creationRefusal, createdFile}
-use Rattle.promises.specs.Contents.{entriesIn, contents}
-use Rattle.promises.specs.Calls.{Call, accepted, numbersGiven, following}
+use Rattle.promises.specs.Contents.{entriesOf, openedIn, contents, Unchanged}
+use Rattle.promises.specs.Calls.{Call, Answer, contentsAfterAll, accepted, numbersGiven, following}
 use Rattle.promises.specs.Regions.{NoneShared}
 
 -- a file that an accepted creation made
@@ -26,18 +23,16 @@ pub record Created (file : List ℕ) : Type 0 where
 abbrev pub Start : List ℕ → Type 0
 Start file = Created file ⊎ (checkOf file ≡ allPass)
 
--- the entries of a file
-abbrev pub entriesOf : List ℕ → ℕ
-entriesOf file = entriesIn (validationOf file .numbers)
-
 -- what holds of the file after a series of calls with their answers
-pub record Promised (calls : List Call) (given : List Appended) (before after : List ℕ) : Type 0 where
+pub record Promised (calls : List Call) (given : List Answer) (before after : List ℕ) : Type 0 where
   -- going through the numbers gives the starting entries and then every accepted one, once, in order, unchanged
-  pub kept : contents after ≡ contents before ++ accepted calls given
+  pub kept : contents after ≡ contentsAfterAll calls given (contents before)
+  -- and every starting entry is as it was, all its words and its slot
+  pub stays : (e : ℕ) → 1 ≤ e → e ≤ entriesOf before → Unchanged before after (record { 0 = e })
   -- the k-th accepted call answered n + k
   pub numbered : numbersGiven given ≡ following (entriesOf before) (length (accepted calls given))
   -- every entry opens
-  pub opened : (e : ℕ) → 1 ≤ e → e ≤ entriesOf after → numberOf (openOf after (record { 0 = e }) .answer) ≡ 0
+  pub opened : (e : ℕ) → 1 ≤ e → e ≤ entriesOf after → openedIn after (record { 0 = e }) .refusal ≡ 0
   -- no two of the first record, the index areas and the entries share a word
   pub apart : NoneShared after (numbersOf after) (addressesOf after (numbersOf after .nex))
   -- and the order check passes

@@ -1,4 +1,5 @@
 -- The cases P1 to P12 of 01, "Examples worked by hand", as one table. A row has the number of its case, what the definitions give, and what 01 says.
+-- The rows with wordsAt spell every word of file A.
 use Prim.Native.Nat.{ℕ, _+_, _*_, _/_}
 use mathlib.Core.Path.{_≡_}
 use mathlib.Core.List.{List, [], _∷_, _++_, map}
@@ -14,21 +15,21 @@ use Rattle.geometry.specs.Growth.{growthOf, capacityOf, totalOf}
 use Rattle.geometry.specs.Area.{slotOf}
 use Rattle.descriptor.specs.declared.numbers.Settings.{Settings}
 use Rattle.descriptor.specs.declared.numbers.DescriptorNumbers.{DescriptorNumbers}
-use Rattle.descriptor.specs.declared.validating.Validated.{Validated}
-use Rattle.descriptor.specs.declared.validating.Validated.the-variants as validated
 use Rattle.descriptor.specs.Refusal.{refusalIn}
 use Rattle.descriptor.specs.FirstRecord.{createdOf, growthIn, numbersOf, addressesOf}
 use Rattle.descriptor.specs.Rules.{settingRules, fillingRules, fileRefusal}
 use Rattle.descriptor.specs.Answers.{validationOf}
 use Rattle.entry.specs.declared.answers.Open.{Open}
-use Rattle.entry.specs.declared.answers.Open.the-variants.{Numbers, Refused}
+use Rattle.entry.specs.declared.answers.Open.the-variants.{Numbers}
 use Rattle.entry.specs.declared.answers.PartPlace.{PartPlace}
 use Rattle.entry.specs.Opening.{slotPositionOf}
-use Rattle.entry.specs.Answers.{openOf, sectionWordsOf, dataWordsOf, bytesOf}
-use Rattle.writer.specs.Creation.{firstWritten, creationRefusal, createdFile}
-use Rattle.writer.specs.Handed.{Handed, handedIn}
+use Rattle.entry.specs.Answers.{openOf, openCase, sectionWordsOf, dataWordsOf, bytesOf}
+use Rattle.writer.specs.Creation.{firstWritten, creationRefusal}
 use Rattle.writer.specs.Answers.{appendOf, fileAfter}
+use Rattle.promises.specs.Contents.{numbersIn, openedIn}
 use Rattle.promises.specs.Calls.{following}
+use Rattle.promises.specs.FileA.{settings, append2, append3, created, after1, after2, A, twoSections}
+use Rattle.promises.specs.ByHand.{wordsAt, word, twoWords, zeroWords, firstRecord, entryHead, slot}
 
 -- a row of the table: P of its number, what is found, what is expected
 pub data Row : Type 1 where
@@ -53,48 +54,6 @@ aex r = record { 0 = r }
 abbrev pub at : ℕ → ℕ → Place
 at r w = record { «record» = record { 0 = r }; word = record { 0 = w } }
 
--- ---- file A
-
--- settings by reclen, lind, lex1 and gex; the others are A's in every case: kind 1, vind 2, flags 0
-abbrev pub settings : ℕ → ℕ → ℕ → ℕ → Settings
-settings reclen lind lex1 gex = record {
-  reclen = pos reclen;
-  kind = pos 1;
-  vind = pos 2;
-  lind = pos lind;
-  flags = pos 0;
-  lex1 = pos lex1;
-  gex = pos gex;
-}
-
--- append (1): version 1, identifier 7 of 3 words, 5 data words; one index word. The section's bytes are 1 to 12, the data's 101 to 120
-abbrev pub append1 : Handed
-append1 = handedIn (pos 1) (following 200 4) (pos 7 ∷ []) (pos 3 ∷ []) (following 0 12) (following 100 20)
-
--- appends (2) and (3): version 1, nothing else; one index word
-abbrev pub append2 : Handed
-append2 = handedIn (pos 1) (following 210 4) [] [] [] []
-
-abbrev pub append3 : Handed
-append3 = handedIn (pos 1) (following 220 4) [] [] [] []
-
--- A of so many records of 20 words: created, and after each append
-abbrev pub created : ℕ → List ℕ
-created records = createdFile (zeros (offsetOf (20 * records))) (settings 20 4 2 20)
-
-abbrev pub after1 : ℕ → List ℕ
-after1 records = fileAfter (created records) append1
-
-abbrev pub after2 : ℕ → List ℕ
-after2 records = fileAfter (after1 records) append2
-
-abbrev pub after3 : ℕ → List ℕ
-after3 records = fileAfter (after2 records) append3
-
--- A itself, of 6 records
-abbrev pub A : List ℕ
-A = after3 6
-
 -- ---- two files that differ in their first entry
 
 -- it has a section
@@ -105,10 +64,9 @@ withSection = after1 6
 abbrev pub withoutSection : List ℕ
 withoutSection = fileAfter (created 6) append2
 
--- nsec in the answer of an open
-abbrev pub sectionsIn : Open → ℕ
-sectionsIn (Numbers place version nsec nword array) = nsec
-sectionsIn (Refused n) = 0
+-- two answers of an open differ: neither is a refusal, and one entry has a section and the other none
+abbrev pub Differ : Open → Open → Type 0
+Differ one other = (openCase one .nsec ≡ 1) × (openCase other .nsec ≡ 0) × (openCase one .refusal ≡ 0) × (openCase other .refusal ≡ 0)
 
 -- ---- what is looked at
 
@@ -119,10 +77,9 @@ identifierFirst file e = getD (openOf file (entry e) .sections .identifiers) 0 (
 abbrev pub addressFirst : List ℕ → ℕ → ℕ
 addressFirst file e = getD (openOf file (entry e) .sections .addresses) 0 (record { 0 = 0 }) .0
 
--- adata in the answer of an open
-abbrev pub adataIn : Open → ℤ
-adataIn (Numbers place version nsec nword array) = array .adata .0
-adataIn (Refused n) = pos 0
+-- an entry that opens: its start, version, nsec, nword, adata and ldata
+abbrev pub opensAt : Place → ℕ → ℕ → ℕ → ℕ → ℕ → Open
+opensAt start version nsec nword adata ldata = Numbers start (pos version) nsec nword (record { adata = record { 0 = pos adata }; ldata = ldata })
 
 -- the record and word where a part that is handed out starts
 abbrev pub startsAt : ℕ → PartPlace → Place
@@ -134,10 +91,9 @@ indexAt file e =
     let d = numbersOf file in
     placeOf (d .reclen) (slotPositionOf d (addressesOf file (d .nex)) (entry e))
 
--- the next free record and word of validated numbers
-abbrev pub nextIn : Validated → Place
-nextIn (validated.Numbers d) = record { «record» = d .nextrec; word = d .nextword }
-nextIn (validated.Refused n) = at 0 0
+-- the next free record and word
+abbrev pub nextIn : List ℕ → Place
+nextIn file = record { «record» = numbersIn file .nextrec; word = numbersIn file .nextword }
 
 -- the numbers of a new file with these settings, but for xnext, nextrec and nex
 abbrev pub filled : Settings → ℕ → ℕ → ℕ → DescriptorNumbers
@@ -190,18 +146,45 @@ examples =
     -- file A: section 7 has address 17, data 20. The entry starts at record 3 word 1, so these are words 17 and 20 of that record
     P 1 (identifierFirst A 1) (pos 7) ∷
     P 1 (addressFirst A 1) 17 ∷
-    P 1 (adataIn (openOf A (entry 1) .answer)) (pos 20) ∷
+    P 1 (openedIn A (entry 1) .array .adata .0) (pos 20) ∷
     P 1 (startsAt 20 (sectionWordsOf A (entry 1) (pos 7))) (at 3 17) ∷
     P 1 (startsAt 20 (dataWordsOf A (entry 1))) (at 3 20) ∷
     P 1 (bytesOf A (sectionWordsOf A (entry 1) (pos 7))) (following 0 12) ∷
     P 1 (bytesOf A (dataWordsOf A (entry 1))) (following 100 20) ∷
+    -- it opens with version 1, nsec 1, nword 24, adata 20, ldata 5
+    P 1 (openOf A (entry 1) .answer) (opensAt (at 3 1) 1 1 24 20 5) ∷
+    -- its words: these with xnum 1; identifier 7, length 3, address 17; the section and the data
+    P 1 (wordsAt A 3 1 16) (entryHead 1 1 24 20 5 1 ++ word 7 ++ twoWords 3 ++ twoWords 17) ∷
+    P 1 (wordsAt A 3 17 8) (following 0 12 ++ following 100 20) ∷
+    -- of two sections: both identifiers, both lengths, both addresses. The first address is 12 + 5 × 2
+    P 1 (wordsAt twoSections 3 12 10) (word 7 ++ word 9 ++ twoWords 3 ++ twoWords 1 ++ twoWords 22 ++ twoWords 25) ∷
     -- entry 2's index is at record 2 word 5
     P 2 (indexAt A 2) (at 2 5) ∷
+    -- the words of record 2, area 1: the index of entry 1, which starts at record 3 word 1; of entry 2, at record 4 word 5; the unused words are zero
+    P 2 (wordsAt A 2 1 4) (slot 3 1 (following 200 4)) ∷
+    P 2 (wordsAt A 2 5 4) (slot 4 5 (following 210 4)) ∷
+    P 2 (wordsAt A 2 9 12) (zeroWords 12) ∷
     -- after (2) next is record 4 word 16
-    P 3 (nextIn (validationOf (after2 6) .numbers)) (at 4 16) ∷
+    P 3 (nextIn (after2 6)) (at 4 16) ∷
+    -- entry 2 and its words: version 1, nsec 0, nword 11, adata 0, ldata 0; xnum 2
+    P 3 (openOf A (entry 2) .answer) (opensAt (at 4 5) 1 0 11 0 0) ∷
+    P 3 (wordsAt A 4 5 11) (entryHead 1 0 11 0 0 2) ∷
     -- after (3) aex 2 and 5, next record 6 word 12
     P 4 (validationOf A .addresses) (aex 2 ∷ aex 5 ∷ replicate 14 (aex 0)) ∷
-    P 4 (nextIn (validationOf A .numbers)) (at 6 12) ∷
+    P 4 (nextIn A) (at 6 12) ∷
+    -- the first record as created: xnext 1, nextrec 2, nextword 1, nex 0, no address. The bytes behind it, 81 to 480, stay
+    P 4 (wordsAt (created 6) 1 1 20) (firstRecord 1 2 1 0 0 0) ∷
+    P 4 (wordsAt (created 6) 2 1 100) (following 81 174 ++ following 0 226) ∷
+    -- the first record after (3): xnext 4, nextrec 6, nextword 12, nex 2, aex 2 and 5
+    P 4 (wordsAt A 1 1 20) (firstRecord 4 6 12 2 2 5) ∷
+    -- the words skipped before record 5, area 2, are zero; in it the index of entry 3, which starts at record 6 word 1; the unused words are zero
+    P 4 (wordsAt A 4 16 5) (zeroWords 5) ∷
+    P 4 (wordsAt A 5 1 4) (slot 6 1 (following 220 4)) ∷
+    P 4 (wordsAt A 5 5 16) (zeroWords 16) ∷
+    -- entry 3 and its words: version 1, nsec 0, nword 11, adata 0, ldata 0; xnum 3. The bytes behind it, 445 to 480, stay
+    P 4 (openOf A (entry 3) .answer) (opensAt (at 6 1) 1 0 11 0 0) ∷
+    P 4 (wordsAt A 6 1 11) (entryHead 1 0 11 0 0 3) ∷
+    P 4 (wordsAt A 6 12 9) (following 190 36) ∷
     -- A with 5 records: append (3) gives 24; with 6 it does not
     P 5 (appendOf (after2 5) append3 .refusal) 24 ∷
     P 5 (appendOf (after2 6) append3 .refusal) 0 ∷

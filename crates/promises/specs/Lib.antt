@@ -3,5 +3,8 @@ pub mod Contents
 pub mod Calls
 pub mod Regions
 pub mod Tables
+pub mod Bytes
 pub mod Demand
+pub mod FileA
+pub mod ByHand
 pub mod Examples

@@ -9,7 +9,8 @@ use Rattle.descriptor.specs.declared.numbers.DescriptorNumbers.{DescriptorNumbe
 use Rattle.descriptor.specs.FirstRecord.{numbersOf, addressesOf}
 use Rattle.descriptor.specs.Rules.{fileRefusal}
 use Rattle.entry.specs.Opening.{entryRefusal, enteredOf}
-use Rattle.order.specs.Order.{areaStartOf, areaEndOf, endOf}
+use Rattle.descriptor.specs.Areas.{areaStartOf, areaEndOf}
+use Rattle.entry.specs.Opening.{endOf}
 
 pub data Region : Type 0 where
   firstRecord : Region

@@ -12,8 +12,8 @@ use Rattle.descriptor.specs.FirstRecord.{numbersOf, addressesOf, createdOf}
 use Rattle.descriptor.specs.Refusal.{Rule, row, Given, AllHold}
 use Rattle.descriptor.specs.Rules.{fileRules, creationRules}
 use Rattle.entry.specs.Tables.{sectionNamed}
-use Rattle.entry.specs.Opening.{placeOf, slotPositionOf, entryRules, enteredOf}
-use Rattle.order.specs.declared.checking.Checked.{Checked}
+use Rattle.entry.specs.Opening.{placeStored, slotPositionOf, entryRules, enteredOf}
+use Rattle.order.specs.declared.answers.Checked.{Checked}
 use Rattle.order.specs.Order.{orderRules, allPass}
 use Rattle.writer.specs.Handed.{Handed}
 use Rattle.writer.specs.Rules.{appendRules}
@@ -36,7 +36,7 @@ extensionRows file k = row 12 (leb 1 (k .0)) ∷ row 12 (leb (k .0) (numbersOf f
 abbrev pub entryRows : List ℕ → EntryNumber → List Rule
 entryRows file e =
     let d = numbersOf file in
-    entryRules file d e (placeOf file (slotPositionOf d (addressesOf file (d .nex)) e))
+    entryRules file d e (placeStored file (slotPositionOf d (addressesOf file (d .nex)) e))
 
 -- 20: no section with the identifier. What sectionNamed finds is said by `named` of entry, in proofs/SectionTables.antt
 abbrev pub sectionRows : List ℕ → EntryNumber → ℤ → List Rule

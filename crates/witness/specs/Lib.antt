@@ -1,2 +1,3 @@
--- What the contract of `witness` cites.
+-- What the contracts of `witness` cite.
 pub mod Twice
+pub mod Begun

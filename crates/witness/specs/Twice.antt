@@ -8,7 +8,7 @@ use mir.Val.{SFits}
 use Rattle.words.specs.Word.{integer4}
 use Rattle.writer.specs.Handed.{Handed}
 use Rattle.writer.specs.Answers.{appendOf, fileAfter}
-use Rattle.promises.specs.Calls.{append}
+use Rattle.promises.specs.Calls.{append, appended}
 use Rattle.promises.specs.Demand.{Start, Promised}
 use Rattle.witness.specs.declared.Twice.{Twice}
 
@@ -21,4 +21,4 @@ pub record AppendsTwice (before after : List ℕ) (h k : Handed) (r : Twice) : T
   pub first : r .first ≡ appendOf before h
   pub second : r .second ≡ appendOf (fileAfter before h) k
   pub bytes : after ≡ fileAfter (fileAfter before h) k
-  pub promised : Start before → Promised (append h ∷ append k ∷ []) (r .first ∷ r .second ∷ []) before after
+  pub promised : Start before → Promised (append h ∷ append k ∷ []) (appended (r .first) ∷ appended (r .second) ∷ []) before after

@@ -2,16 +2,27 @@
 //
 // `append_twice` makes two appends of the caller's choice, and its contract is what the theorem of
 // demand 3 concludes of the file before, the file after, what was handed in and what was answered. So
-// that the theorem speaks of what the code does is itself proved.
+// that the theorem speaks of what the code does is itself proved. `create_and_append` starts from a
+// file that it creates: of that start the contract assumes nothing.
+use descriptor::Settings;
+use geometry::EntryNumber;
 use writer::Appended;
 use writer::append;
+use writer::create;
 ghost use Rattle.writer.specs.Handed.{handedIn};
+ghost use Rattle.witness.specs.Begun.{CreatesAndAppends};
 ghost use Rattle.witness.specs.Twice.{AllIntegers, AppendsTwice};
 
 // What two appends answer.
 pub struct Twice {
     pub first: Appended,
     pub second: Appended,
+}
+
+// What a creation and the append behind it answer: the creation's refusal, and the append's answer.
+pub struct Begun {
+    pub created: u32,
+    pub appended: Appended,
 }
 
 // Reads identifiers one by one, and so shows that each is an Integer*4.
@@ -56,4 +67,31 @@ pub fn append_twice(
         next_values,
     );
     Twice { first, second }
+}
+
+// Creates a file, and appends an entry to it. After a refused creation nothing is appended: the answer
+// is the refusal, and zeros.
+pub fn create_and_append(
+    file: &mut [u8],
+    settings: Settings,
+    version: i32,
+    index: &[u8],
+    ids: &[i32],
+    lengths: &[i64],
+    sections: &[u8],
+    values: &[u8],
+) -> Begun
+    ensures { λ r. ⌜ CreatesAndAppends (now (file .entry)) (now (file .exit)) settings (handedIn version (now (index .entry)) (now (ids .entry)) (now (lengths .entry)) (now (sections .entry)) (now (values .entry))) r ⌝ }
+{
+    read_identifiers(ids);
+    let created = create(file, settings);
+    if created != 0 {
+        let appended = Appended {
+            refusal: 0,
+            number: EntryNumber(0),
+        };
+        return Begun { created, appended };
+    }
+    let appended = append(file, version, index, ids, lengths, sections, values);
+    Begun { created, appended }
 }

@@ -49,6 +49,7 @@ bits-of w image at u f e =
     ap number (subst (λ (n : ℕ). part image at n ≡ numeral (bytes w) u) (length-numeral (bytes w) u) e)
     ∙ number-numeral (bytes w) u (subst (λ (k : ℕ). u < k) (range-bytes w) f)
 
+-- where the bytes of a value stand, the value is read
 pub value-of : (w : Width) (image : List ℕ) (at : ℕ) (z : ℤ) → SFits w z → part image at (length (signedNumeral w z)) ≡ signedNumeral w z → signedAt w image at ≡ z
 value-of w image at z f e = rw (bits-of w image at (bitsOf w z) (fits-ofZ f .fits) e) (signed-bits w z f)
 
@@ -59,22 +60,27 @@ bits-written w image at u f h =
     let n = length-numeral (bytes w) u in
     bits-of w (splice image at (numeral (bytes w) u)) at u f (part-same image at (length (numeral (bytes w) u)) (numeral (bytes w) u) refl (omega (arith, n)))
 
+-- a value that was written is read back
 pub signed-written : (w : Width) (image : List ℕ) (at : ℕ) (z : ℤ) → SFits w z → at + bytes w ≤ length image
     → signedAt w (splice image at (signedNumeral w z)) at ≡ z
 signed-written w image at z f h = rw (bits-written w image at (bitsOf w z) (fits-ofZ f .fits) h) (signed-bits w z f)
 
+-- equal bytes give equal bits
+pub bits-alike : (w : Width) (f g : List ℕ) (a b : ℕ) → part f a (bytes w) ≡ part g b (bytes w) → bitsAt w f a ≡ bitsAt w g b
+unfolding bitsAt
+bits-alike w f g a b e = ap number e
+
 -- a word that ends before a write, starts behind it, or is met by none of a list of writes is as it was
 pub bits-before : (w : Width) (image : List ℕ) (at b : ℕ) (ys : List ℕ) → at + bytes w ≤ b → bitsAt w (splice image b ys) at ≡ bitsAt w image at
-unfolding bitsAt
-bits-before w image at b ys h = ap number (part-before image at (bytes w) b ys h)
+bits-before w image at b ys h = bits-alike w (splice image b ys) image at at (part-before image at (bytes w) b ys h)
 
+-- a number behind a write is read as before
 pub bits-behind : (w : Width) (image : List ℕ) (at b : ℕ) (ys : List ℕ) → b + length ys ≤ at → bitsAt w (splice image b ys) at ≡ bitsAt w image at
-unfolding bitsAt
-bits-behind w image at b ys h = ap number (part-behind image at (bytes w) b ys h)
+bits-behind w image at b ys h = bits-alike w (splice image b ys) image at at (part-behind image at (bytes w) b ys h)
 
+-- a number apart from all writes is read as before
 pub bits-keep : (w : Width) (image : List ℕ) (ws : List Write) (at : ℕ) → Apart at (bytes w) ws → bitsAt w (writes image ws) at ≡ bitsAt w image at
-unfolding bitsAt
-bits-keep w image ws at h = ap number (writes-keep image ws at (bytes w) h)
+bits-keep w image ws at h = bits-alike w (writes image ws) image at at (writes-keep image ws at (bytes w) h)
 
 -- one of writes that follow one another is read there
 pub bits-follow : (w : Width) (image : List ℕ) (a : ℕ) (ws : List Write) → Follows a ws → (k at u : ℕ) → BehindOf k (put at (numeral (bytes w) u)) ws → u < 2 ^ bits w

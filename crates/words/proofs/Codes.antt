@@ -17,7 +17,7 @@ pub same-four : (image : List ℕ) (at a b c d : ℕ) → at + 4 ≤ length imag
 unfolding sameBytes
 same-four image at a b c d h = ap (λ (l : List ℕ). sameBytes l (a ∷ b ∷ c ∷ d ∷ [])) (part-four image at h)
 
--- bytes that are the same are one list, and a list is the same as itself
+-- bytes that are the same are one list
 pub same-list : (xs ys : List ℕ) → sameBytes xs ys ≡ true → xs ≡ ys
 unfolding sameBytes
 same-list [] [] e = refl
@@ -29,6 +29,7 @@ same-list (x ∷ xs) (y ∷ ys) e = by (eqb x y) refl e (same-list xs ys)
     by true q t rest = ap₂ (λ (h : ℕ) (l : List ℕ). h ∷ l) (eqb-true x y q) (rest t)
     by false q t rest = absurd (subst T (sym t) tt)
 
+-- a list is the same as itself
 pub same-self : (xs : List ℕ) → sameBytes xs xs ≡ true
 unfolding sameBytes
 same-self [] = refl

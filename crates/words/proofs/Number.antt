@@ -12,11 +12,13 @@ abbrev pub Bytes : List ℕ → Type 0
 Bytes [] = Unit
 Bytes (b ∷ bs) = (b < 256) × Bytes bs
 
+-- a number in n bytes has n bytes
 pub length-numeral : (n x : ℕ) → length (numeral n x) ≡ n
 unfolding numeral
 length-numeral zero x = refl
 length-numeral (suc n) x = ap suc (length-numeral n (x / 256))
 
+-- each of them is a byte
 pub bytes-numeral : (n x : ℕ) → Bytes (numeral n x)
 unfolding numeral
 bytes-numeral zero x = tt

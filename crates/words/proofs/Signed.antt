@@ -20,6 +20,7 @@ range-half w32 = refl
 range-half w64 = refl
 range-half w128 = refl
 
+-- the range is that of the bytes
 pub range-bytes : (w : Width) → 2 ^ bits w ≡ 256 ^ bytes w
 range-bytes w8 = refl
 range-bytes w16 = refl
@@ -43,10 +44,11 @@ signed-low w u h = toZ-pos w h
 pub signed-high : (w : Width) (u m : ℕ) → 2 ^ hbits w ≤ u → u + suc m ≡ 2 ^ bits w → signedOf w u ≡ negsuc m
 signed-high w u m h e = rw (le-ltb u (2 ^ hbits w) h) (ap negsuc (omega arith))
 
--- a value's bits stand for it, and bits are those of their value
+-- a value's bits stand for it
 pub signed-bits : (w : Width) (z : ℤ) → SFits w z → signedOf w (bitsOf w z) ≡ z
 signed-bits w z f = toZ-ofZ f
 
+-- bits are those of the value that they stand for
 pub bits-signed : (w : Width) (u : ℕ) → u < 2 ^ bits w → bitsOf w (signedOf w u) ≡ u
 bits-signed w u h = ofZ-toZ {w = w} {n = u} (record { fits = h })
 
@@ -62,7 +64,7 @@ module _ (w : Width) (z : ℤ) (f : SFits w z) where
   abbrev here : ℤ
   here = signedOf w (bitsOf w z)
 
-  -- where z is not negative: it is cast, and the cast is its bits
+  -- where z is not negative: it is cast
   pub cast-fits : leZ (pos 0) here ≡ true → T (nonNeg here) × Fits w (natAbs here)
   cast-fits t = rw (toZ-ofZ f) (by z f (rw (toZ-ofZ f) at t))
     where
@@ -70,6 +72,7 @@ module _ (w : Width) (z : ℤ) (f : SFits w z) where
       by (pos n) f t = (tt, fits-ofZ f)
       by (negsuc n) f t = false-true t
 
+  -- and the cast is its bits
   pub cast-bits : leZ (pos 0) here ≡ true → natAbs here ≡ bitsOf w z
   cast-bits t = rw (toZ-ofZ f) (by z (rw (toZ-ofZ f) at t))
     where
@@ -81,6 +84,7 @@ module _ (w : Width) (z : ℤ) (f : SFits w z) where
   abbrev turned : ℤ
   turned = signedOf w (bitsOf w (negsuc 0 -ℤ here))
 
+  -- where z is negative: -1 less z fits
   pub turn-fits : leZ (pos 0) here ≡ false → SFits w (negsuc 0 -ℤ here)
   turn-fits t = rw (toZ-ofZ f) (by z f (negative z (rw (toZ-ofZ f) at t)))
     where
@@ -95,12 +99,15 @@ module _ (w : Width) (z : ℤ) (f : SFits w z) where
           let g : SFits w (negsuc n) = rw e at f in
           (n, e, g .sfits, rw (toZ-ofZ f, e, above n) (toZ-pos w (g .sfits)))
 
+  -- that is cast
   pub turn-cast-fits : leZ (pos 0) here ≡ false → T (nonNeg turned) × Fits w (natAbs turned)
   turn-cast-fits t = let (n, e, h, d) = turn t in rw d (tt, record { fits = omega (arith, range-half w) })
 
+  -- the cast is below the range
   pub turn-le : leZ (pos 0) here ≡ false → natAbs turned ≤ 2 ^ bits w - 1
   turn-le t = let (n, e, h, d) = turn t in rw d (omega (arith, range-half w))
 
+  -- and what is left of the range is the bits of z
   pub turn-bits : leZ (pos 0) here ≡ false → 2 ^ bits w - 1 - natAbs turned ≡ bitsOf w z
   turn-bits t =
       let (n, e, h, d) = turn t in
@@ -112,8 +119,10 @@ module _ (w : Width) (u : ℕ) (f : u < 2 ^ bits w) (h : 2 ^ hbits w ≤ u) wher
   low : signedOf w (2 ^ bits w - 1 - u) ≡ pos (2 ^ bits w - 1 - u)
   low = toZ-pos w (omega (arith, range-half w))
 
+  -- -1 less what is left of the range fits
   pub fall-fits : SFits w (negsuc 0 -ℤ signedOf w (2 ^ bits w - 1 - u))
   fall-fits = rw (low, below) (record { sfits = omega (arith, range-half w) })
 
+  -- and stands for what the bits stand for
   pub fall : signedOf w (bitsOf w (negsuc 0 -ℤ signedOf w (2 ^ bits w - 1 - u))) ≡ signedOf w u
   fall = toZ-ofZ fall-fits ∙ rw (low, below, le-ltb u (2 ^ hbits w) h) (ap negsuc (omega arith))

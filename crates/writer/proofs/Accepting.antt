@@ -1,5 +1,5 @@
 -- What holds of an accepted append: its words are within the bytes lent, and its numbers are admitted again. Assumes nothing.
-use Prim.Native.Nat.{ℕ, _+_, _*_, _/_, _^_, _≤_, _<_}
+use Prim.Native.Nat.{ℕ, _+_, _*_, _/_, _^_, _≤_}
 use mathlib.Core.Path.{_≡_, refl, ap}
 use mathlib.Core.List.{List}
 use native.Mathlib.Omega.{arith}
@@ -7,18 +7,15 @@ use lib.ListN.{length}
 use Rattle.geometry.specs.declared.units.RecordNumber.{RecordNumber}
 use Rattle.geometry.specs.declared.units.EntryNumber.{EntryNumber}
 use Rattle.geometry.specs.Units.{entriesBefore}
-use Rattle.geometry.proofs.Capacities.{total-limit}
 use Rattle.descriptor.specs.declared.numbers.DescriptorNumbers.{DescriptorNumbers}
-use Rattle.descriptor.specs.FirstRecord.{growthIn, freeOf}
 use Rattle.descriptor.specs.Bounds.{Admitted}
-use Rattle.descriptor.proofs.Fitting.{fit-reach}
 use Rattle.entry.specs.EntryDescriptor.{wordOffset}
-use Rattle.entry.specs.Contents.{firstContent}
+use Rattle.layout.specs.EntryWords.{firstContent}
 use Rattle.entry.specs.Opening.{slotPositionOf}
 use Rattle.entry.proofs.Entering.{slot-inside}
 use Rattle.writer.specs.Handed.{Handed, sumOf, nsecIn, ldataIn, nwordIn}
 use Rattle.writer.specs.Placing.{entryStart, numbersAfter, addressesAfter}
-use Rattle.writer.specs.Writing.{headFrom, headOf}
+use Rattle.writer.specs.Writing.{behind, headFrom, headOf}
 use Rattle.writer.specs.Bounds.{Fitting, Accepted}
 use Rattle.writer.proofs.Kept.{kept}
 
@@ -41,28 +38,12 @@ module _ (d : DescriptorNumbers) (h : Handed) (f : Fitting d h) where
   value-bytes = omega (arith, f .whole)
 
   -- the data follow them
-  pub data-next : (start : ℕ) → wordOffset start (firstContent (nsecIn h) + sumOf (h .lengths)) ≡ wordOffset start (firstContent (nsecIn h)) + length (h .sections)
+  pub data-next : (start : ℕ) → wordOffset start (behind (firstContent (nsecIn h)) (sumOf (h .lengths))) ≡ wordOffset start (firstContent (nsecIn h)) + length (h .sections)
   data-next start = omega (arith, f .sections)
 
   -- so the head is made of counts of bytes
   pub head-counted : (number : EntryNumber) → headFrom (h .version) (length (h .ids)) (length (h .sections) / 4) (length (h .values) / 4) number ≡ headOf h number
   head-counted number = ap (λ (n : ℕ). headFrom (h .version) (length (h .ids)) n (length (h .values) / 4) number) section-words
-
--- ---- numbers of an admitted file are small
-
-module _ (bytes : ℕ) (d : DescriptorNumbers) (addresses : List RecordNumber) (a : Admitted bytes d addresses) where
-  pub free-small : freeOf d ≤ 2 ^ 28
-  free-small = omega (arith, a .room, a .lent .high)
-
-  pub xnext-small : d .xnext .0 < 2 ^ 63
-  xnext-small =
-      omega (
-        arith,
-        a .counted,
-        a .settled .nex-high,
-        fit-reach (growthIn d) (entriesBefore (d .xnext)) (d .nex) (a .fit),
-        total-limit (growthIn d) (d .nex) (d .nex) (omega arith) (a .settled .within),
-      )
 
 -- ---- the accepted append
 

@@ -21,10 +21,10 @@ storable bytes d e h =
     let a = setting-rows bytes d e in
     record {
       reclen = omega (arith, s .reclen-high);
-      kind = omega (arith, within-bounds w32 1 3 (d .kind) (omega arith) (a .1 .1 .1 .0) .1);
-      vind = omega (arith, atLeast-bounds w32 2 (d .vind) (a .1 .1 .1 .1 .0) .1);
+      kind = omega (arith, within-bounds w32 1 3 (d .kind) (omega arith) (a .kind) .1);
+      vind = omega (arith, atLeast-bounds w32 2 (d .vind) (a .vind) .1);
       lind = omega (arith, s .lind-high);
-      flags = omega (arith, within-bounds w32 0 1 (d .flags) (omega arith) (a .1 .1 .1 .1 .1 .1 .0) .1);
+      flags = omega (arith, within-bounds w32 0 1 (d .flags) (omega arith) (a .flags) .1);
       nextword = h;
       lex1 = omega (arith, s .lex1-high);
       nex = omega (arith, s .nex-high);

@@ -9,6 +9,7 @@ use borrow.Author.Tests.{le-leb, lt-ltb, le-ltb, eqb-true, eqb-false}
 use lib.ListN.{length, length-set}
 use lib.Seq.{getD-set-same, getD-set-other}
 use mir.Syntax.{w64}
+use Rattle.outcome.proofs.Either.{either}
 use Rattle.words.specs.Word.{signedOf}
 use Rattle.words.specs.Range.{atLeast}
 use Rattle.words.proofs.Ranges.{atLeast-bits}
@@ -23,11 +24,12 @@ use Rattle.geometry.proofs.Capacities.{over-next, total-none, total-next, capac
 use Rattle.geometry.proofs.Slots.{records-hold}
 use Rattle.descriptor.specs.declared.numbers.DescriptorNumbers.{DescriptorNumbers}
 use Rattle.descriptor.specs.FirstRecord.{aexOf, mexOf, growthIn, freeOf}
-use Rattle.descriptor.specs.Rules.{entriesFit, areaAfter, areasStart, areasEnd}
+use Rattle.descriptor.specs.Areas.{areaAfter, areaEndOf, areasStart, areasEnd}
+use Rattle.descriptor.specs.Rules.{entriesFit}
 use Rattle.descriptor.specs.Bounds.{Settled, Lent, Free, Admitted}
 use Rattle.descriptor.proofs.Passed.{mex-high}
 use Rattle.descriptor.proofs.Fitting.{fit-none, fit-some, fit-reach, fit-full}
-use Rattle.descriptor.proofs.AreaOrder.{after-next, starts-run, area-ends}
+use Rattle.descriptor.proofs.AreaOrder.{record-next, starts-run, area-ends}
 use Rattle.writer.specs.Placing.{full, newArea, afterNewArea, entryStart, nexAfter, numbersAfter, addressesAfter}
 use Rattle.writer.specs.Bounds.{Extensible}
 use Rattle.writer.proofs.Places.{new-small, start-low}
@@ -44,34 +46,34 @@ module _ (d : DescriptorNumbers) (end : ℕ) where
   unfolding numbersAfter areasStart
   starts-same addresses zero = refl
   starts-same addresses (suc k) =
-      ap₂ (λ (a : Bool) (n : ℕ). a && atLeast n (signedOf w64 (aexOf addresses (suc k) .0))) (starts-same addresses k) (after-same addresses k)
+      ap₂ (λ (a : Bool) (n : ℕ). a && atLeast n (signedOf w64 (aexOf addresses (suc k) .0))) (starts-same addresses k) (ap (λ (r : RecordNumber). r .0) (after-same addresses k))
 
 -- the areas of the first k addresses look at no other address
 module _ (d : DescriptorNumbers) (xs ys : List RecordNumber) where
   pub after-agree : (k : ℕ) → (1 ≤ k → aexOf xs k ≡ aexOf ys k) → areaAfter d xs k ≡ areaAfter d ys k
   unfolding areaAfter
   after-agree zero e = refl
-  after-agree (suc k) e = ap (λ (r : RecordNumber). r .0 + areaRecords (capacityOf (growthIn d) (suc k)) (d .lind) (d .reclen)) (e (omega arith))
+  after-agree (suc k) e = ap {B = RecordNumber} (λ (r : RecordNumber). record { 0 = r .0 + areaRecords (capacityOf (growthIn d) (suc k)) (d .lind) (d .reclen) }) (e (omega arith))
 
   starts-agree : (k : ℕ) → ((j : ℕ) → 1 ≤ j → j ≤ k → aexOf xs j ≡ aexOf ys j) → areasStart d xs k ≡ areasStart d ys k
   unfolding areasStart
   starts-agree zero e = refl
   starts-agree (suc k) e =
       ap₂ (λ (a : Bool) (n : ℕ). a && atLeast n (signedOf w64 (aexOf xs (suc k) .0)))
-      (starts-agree k (λ j l h. e j l (omega arith))) (after-agree k (λ l. e k l (omega arith)))
-      ∙ ap (λ (r : RecordNumber). areasStart d ys k && atLeast (areaAfter d ys k) (signedOf w64 (r .0))) (e (suc k) (omega arith) (omega arith))
+      (starts-agree k (λ j l h. e j l (omega arith))) (ap (λ (r : RecordNumber). r .0) (after-agree k (λ l. e k l (omega arith))))
+      ∙ ap (λ (r : RecordNumber). areasStart d ys k && atLeast (areaAfter d ys k .0) (signedOf w64 (r .0))) (e (suc k) (omega arith) (omega arith))
 
 -- ---- where things are put
 
 module _ (bytes : ℕ) (d : DescriptorNumbers) (addresses : List RecordNumber) (a : Admitted bytes d addresses) where
   -- the areas in use end before the new one starts
-  pub new-area-low : areaAfter d addresses (d .nex) ≤ newArea d .0
+  pub new-area-low : areaAfter d addresses (d .nex) .0 ≤ newArea d .0
   unfolding newArea
   new-area-low =
       let some : 1 ≤ d .reclen = omega (arith, a .settled .reclen-low) in
       let ends = area-ends bytes d addresses a (d .nex) (omega arith) in
       let reach = records-hold (freeOf d) (d .reclen) some in
-      let less : (areaAfter d addresses (d .nex) - 1) * d .reclen ≤ recordsFor (freeOf d) (d .reclen) * d .reclen = omega arith in
+      let less : (areaAfter d addresses (d .nex) .0 - 1) * d .reclen ≤ recordsFor (freeOf d) (d .reclen) * d .reclen = omega arith in
       omega (arith, le-of-mul-le-mul-right less some)
 
 -- the extensions in use after an append
@@ -87,11 +89,6 @@ nex-kept d q = rw q
 in-use : (g : Growth) (n k : ℕ) → entriesFit g k n ≡ true → (n ≡ totalOf g k → ⊥) → 1 ≤ k
 in-use g n zero e h = absurd (h (omega (arith, eqb-true n 0 (rw (fit-none g n) at e), total-none g)))
 in-use g n (suc k) e h = omega arith
-
--- by whether the extensions in use are full
-pub either {ℓ} : {X : Type ℓ} (b : Bool) → (b ≡ true → X) → (b ≡ false → X) → X
-either true f g = f refl
-either false f g = g refl
 
 module _ (bytes : ℕ) (d : DescriptorNumbers) (addresses : List RecordNumber) (a : Admitted bytes d addresses) (x : Extensible d) where
   nex-high : nexAfter d ≤ 16
@@ -175,18 +172,18 @@ module _ (bytes : ℕ) (d : DescriptorNumbers) (addresses : List RecordNumber) (
       ∙ rw (
         after-kept,
         address-new q,
-        atLeast-bits w64 (areaAfter d addresses (d .nex)) (newArea d .0),
-        le-leb (areaAfter d addresses (d .nex)) (newArea d .0) (new-area-low bytes d addresses a),
+        atLeast-bits w64 (areaAfter d addresses (d .nex) .0) (newArea d .0),
+        le-leb (areaAfter d addresses (d .nex) .0) (newArea d .0) (new-area-low bytes d addresses a),
         lt-ltb (newArea d .0) (2 ^ 63) (omega (arith, new-small d (a .settled) (omega (arith, a .room, a .lent .high)))),
       )))
       (λ q. rw (nex-kept d q) starts-kept)
 
   -- the last area ends before the entry
-  pub area-ends-after : positionOf (d .reclen) (record { 0 = areaAfter d (addressesAfter d addresses) (nexAfter d) }) (record { 0 = 1 }) ≤ entryStart d
+  pub area-ends-after : areaEndOf d (addressesAfter d addresses) (nexAfter d) ≤ entryStart d
   unfolding entryStart afterNewArea positionOf
   area-ends-after =
       either (full d)
-      (λ q. rw (nex-full d q, after-next d (addressesAfter d addresses) (d .nex), address-new q, q) (omega arith))
+      (λ q. rw (nex-full d q, record-next d (addressesAfter d addresses) (d .nex), address-new q, q) (omega arith))
       (λ q. rw (nex-kept d q, after-kept, q) (omega (arith, area-ends bytes d addresses a (d .nex) (omega arith))))
 
   -- ---- the numbers after an append whose entry ends within the bytes lent
@@ -252,7 +249,7 @@ module _ (bytes : ℕ) (d : DescriptorNumbers) (addresses : List RecordNumber) (
     started-after : areasStart (numbersAfter d end) (addressesAfter d addresses) (numbersAfter d end .nex) ≡ true
     started-after = starts-same d end (addressesAfter d addresses) (numbersAfter d end .nex) ∙ starts-last
 
-    ends-last : positionOf (numbersAfter d end .reclen) (record { 0 = areaAfter d (addressesAfter d addresses) (numbersAfter d end .nex) }) (record { 0 = 1 }) ≤ end
+    ends-last : positionOf (numbersAfter d end .reclen) (areaAfter d (addressesAfter d addresses) (numbersAfter d end .nex)) (record { 0 = 1 }) ≤ end
     unfolding numbersAfter
     ends-last = omega (arith, area-ends-after)
 

@@ -5,11 +5,3 @@ pub mod Places
 pub mod Kept
 pub mod Accepting
 pub mod Answering
-pub mod Frame
-pub mod Admitting
-pub mod FirstRecordAfter
-pub mod ReadBack
-pub mod Stored
-pub mod Reopened
-pub mod Returned
-pub mod CreatedBack

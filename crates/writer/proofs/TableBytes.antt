@@ -18,6 +18,7 @@ use Rattle.words.specs.Word.{integer4, integer8, numeral, signedNumeral, signed
 use Rattle.words.specs.Range.{atLeast}
 use Rattle.words.proofs.Number.{length-numeral}
 use Rattle.words.proofs.Runs.{run-test}
+use Rattle.geometry.specs.declared.units.EntryAddress.{EntryAddress}
 use Rattle.writer.specs.Handed.{wordsOf, sumOf, positive}
 use Rattle.writer.specs.Writing.{identifierBytes, lengthBytes, addressBytes}
 use Rattle.writer.proofs.HandedIn.{read-back, positive-run}
@@ -104,7 +105,7 @@ identifier-table = record { none = λ a. refl; more = λ a z zs. refl; wide = λ
 pub length-table : Table 8 (λ a z. signedNumeral integer8 z) (λ a zs. lengthBytes zs)
 length-table = record { none = λ a. refl; more = λ a z zs. refl; wide = λ a z. length-numeral 8 _ }
 
-pub address-table : Table 8 (λ a z. numeral 8 a) addressBytes
+pub address-table : Table 8 (λ a z. numeral 8 a) (λ a zs. addressBytes (record { 0 = a }) zs)
 address-table = record { none = λ a. refl; more = λ a z zs. refl; wide = λ a z. length-numeral 8 a }
 
 pub length-identifierBytes : (zs : List ℤ) → length (identifierBytes zs) ≡ 4 * length zs
@@ -113,5 +114,5 @@ length-identifierBytes zs = table-length identifier-table 0 zs
 pub length-lengthBytes : (zs : List ℤ) → length (lengthBytes zs) ≡ 8 * length zs
 length-lengthBytes zs = table-length length-table 0 zs
 
-pub length-addressBytes : (a : ℕ) (zs : List ℤ) → length (addressBytes a zs) ≡ 8 * length zs
-length-addressBytes a zs = table-length address-table a zs
+pub length-addressBytes : (a : EntryAddress) (zs : List ℤ) → length (addressBytes a zs) ≡ 8 * length zs
+length-addressBytes a zs = table-length address-table (a .0) zs

@@ -6,6 +6,7 @@ use mathlib.Core.List.{List}
 use lib.ListN.{length}
 use Rattle.geometry.specs.declared.units.RecordNumber.{RecordNumber}
 use Rattle.geometry.specs.Growth.{capacityOf}
+use Rattle.layout.specs.EntryWords.{sectionsMax}
 use Rattle.descriptor.specs.declared.numbers.DescriptorNumbers.{DescriptorNumbers}
 use Rattle.descriptor.specs.FirstRecord.{mexOf, growthIn}
 use Rattle.descriptor.specs.Bounds.{Admitted}
@@ -15,7 +16,7 @@ use Rattle.writer.specs.Placing.{full, entryStart}
 -- rules 21 and 22: what is handed in fits together
 pub record Fitting (d : DescriptorNumbers) (h : Handed) : Type 0 where
   pub index : length (h .index) ≡ 4 * (d .lind - 3)
-  pub few : length (h .ids) ≤ 64
+  pub few : length (h .ids) ≤ sectionsMax
   pub pairs : length (h .lengths) ≡ length (h .ids)
   pub counted : positive (h .lengths) (length (h .lengths)) ≡ true
   pub sections : length (h .sections) ≡ 4 * sumOf (h .lengths)

@@ -8,46 +8,45 @@ use Rattle.outcome.specs.Outcome.{AnswersAndLeaves}
 use Rattle.image.specs.Image.{zeros}
 use Rattle.image.specs.Writes.{Write, put, writes}
 use Rattle.words.specs.Word.{numeral}
+use Rattle.geometry.specs.declared.units.WordNumber.{WordNumber}
 use Rattle.geometry.specs.Units.{offsetOf, firstRecordOffsetOf}
+use Rattle.layout.specs.FirstRecordWords.{fileCodeWord, reclenWord, kindWord, vindWord, lindWord, flagsWord, xnextWord, nextrecWord, nextwordWord, lex1Word, nexWord, gexWord, aexWord, fileCode}
 use Rattle.descriptor.specs.declared.numbers.Settings.{Settings}
 use Rattle.descriptor.specs.declared.numbers.DescriptorNumbers.{DescriptorNumbers}
 use Rattle.descriptor.specs.Refusal.{refusalIn}
-use Rattle.descriptor.specs.FirstRecord.{fileCode, createdOf}
+use Rattle.descriptor.specs.FirstRecord.{createdOf}
 use Rattle.descriptor.specs.Rules.{creationRules}
 
--- bytes at word w of the first record
-abbrev pub fieldOffset : ℕ → ℕ
-fieldOffset w = firstRecordOffsetOf (record { 0 = w })
+-- bytes at a word of the first record
+abbrev pub field : WordNumber → List ℕ → Write
+field w bytes = put (firstRecordOffsetOf w) bytes
 
-abbrev pub field : ℕ → List ℕ → Write
-field w bytes = put (fieldOffset w) bytes
-
--- words 1 to 6: the code and the settings that come first
+-- the code and the settings that come first
 abbrev pub settingWrites : DescriptorNumbers → List Write
 settingWrites d =
-    field 1 fileCode ∷
-    field 2 (numeral 4 (d .reclen)) ∷
-    field 3 (numeral 4 (d .kind)) ∷
-    field 4 (numeral 4 (d .vind)) ∷
-    field 5 (numeral 4 (d .lind)) ∷
-    field 6 (numeral 4 (d .flags)) ∷
+    field fileCodeWord fileCode ∷
+    field reclenWord (numeral 4 (d .reclen)) ∷
+    field kindWord (numeral 4 (d .kind)) ∷
+    field vindWord (numeral 4 (d .vind)) ∷
+    field lindWord (numeral 4 (d .lind)) ∷
+    field flagsWord (numeral 4 (d .flags)) ∷
     []
 
--- words 7 to 11: how far the file is filled
+-- how far the file is filled
 abbrev pub countWrites : DescriptorNumbers → List Write
 countWrites d =
-    field 7 (numeral 8 (d .xnext .0)) ∷
-    field 9 (numeral 8 (d .nextrec .0)) ∷
-    field 11 (numeral 4 (d .nextword .0)) ∷
+    field xnextWord (numeral 8 (d .xnext .0)) ∷
+    field nextrecWord (numeral 8 (d .nextrec .0)) ∷
+    field nextwordWord (numeral 4 (d .nextword .0)) ∷
     []
 
--- words 12 to 14: the growth; and the rest of the record, zero
+-- the growth; and the rest of the record, zero
 abbrev pub growthWrites : DescriptorNumbers → List Write
 growthWrites d =
-    field 12 (numeral 4 (d .lex1)) ∷
-    field 13 (numeral 4 (d .nex)) ∷
-    field 14 (numeral 4 (d .gex)) ∷
-    field 15 (zeros (offsetOf (d .reclen - 14))) ∷
+    field lex1Word (numeral 4 (d .lex1)) ∷
+    field nexWord (numeral 4 (d .nex)) ∷
+    field gexWord (numeral 4 (d .gex)) ∷
+    field (aexWord 0) (zeros (offsetOf (d .reclen - 14))) ∷
     []
 
 -- the file with the first record of a new file; later bytes stay

@@ -1,5 +1,5 @@
 -- What is handed to an append, and its numbers.
-use Prim.Native.Nat.{ℕ, zero, suc, _+_, _*_, _/_, _<_}
+use Prim.Native.Nat.{ℕ, zero, suc, _+_, _/_, _<_}
 use mathlib.Core.Bool.{Bool, true, not, _&&_}
 use mathlib.Core.List.{List, [], _∷_}
 use lib.IntN.{ℤ, pos, negsuc}
@@ -7,6 +7,7 @@ use lib.ListN.{length, getD}
 use mir.Val.{SFits}
 use Rattle.words.specs.Word.{integer4}
 use Rattle.words.specs.Range.{atLeast}
+use Rattle.layout.specs.EntryWords.{descriptorWords}
 use Rattle.entry.specs.Tables.{sameInteger}
 
 -- version, index words, identifiers, lengths, section bytes one after another, and data
@@ -56,7 +57,7 @@ abbrev pub ldataIn : Handed → ℕ
 ldataIn h = length (h .values) / 4
 
 abbrev pub nwordIn : Handed → ℕ
-nwordIn h = 11 + 5 * nsecIn h + sumOf (h .lengths) + ldataIn h
+nwordIn h = descriptorWords (nsecIn h) + sumOf (h .lengths) + ldataIn h
 
 -- the arguments of an append together
 abbrev pub handedIn : ℤ → List ℕ → List ℤ → List ℤ → List ℕ → List ℕ → Handed

@@ -7,6 +7,7 @@ use lib.IntN.{ℤ}
 use lib.ListN.{length}
 use Rattle.geometry.specs.Units.{offsetOf}
 use Rattle.geometry.specs.Growth.{capacityOf}
+use Rattle.layout.specs.EntryWords.{sectionsMax}
 use Rattle.descriptor.specs.declared.numbers.DescriptorNumbers.{DescriptorNumbers}
 use Rattle.descriptor.specs.Refusal.{Rule, row, refusalIn}
 use Rattle.descriptor.specs.FirstRecord.{mexOf, growthIn}
@@ -17,7 +18,7 @@ use Rattle.writer.specs.Placing.{full, entryStart}
 abbrev pub handedRules : DescriptorNumbers → List ℕ → List ℤ → List ℤ → List ℕ → List ℕ → List Rule
 handedRules d index ids lengths sections values =
     row 21 (eqb (length index) (offsetOf (d .lind - 3))) ∷
-    row 22 (leb (length ids) 64) ∷
+    row 22 (leb (length ids) sectionsMax) ∷
     row 22 (eqb (length lengths) (length ids)) ∷
     row 22 (distinct ids (length ids)) ∷
     row 22 (positive lengths (length lengths)) ∷

@@ -1,5 +1,5 @@
 -- What an accepted append writes, in the order of 01: the new area with nex and its address, the entry, its index, and how far the file is filled.
-use Prim.Native.Nat.{ℕ, _+_, _*_, _-_}
+use Prim.Native.Nat.{ℕ, _+_, _-_}
 use mathlib.Core.Bool.{cond}
 use mathlib.Core.List.{List, [], _∷_, _++_}
 use lib.Dec.{eqb}
@@ -10,12 +10,14 @@ use Rattle.image.specs.Writes.{Write, put, writes}
 use Rattle.words.specs.Word.{numeral, integer4, integer8, signedNumeral}
 use Rattle.geometry.specs.declared.units.RecordNumber.{RecordNumber}
 use Rattle.geometry.specs.declared.units.EntryNumber.{EntryNumber}
+use Rattle.geometry.specs.declared.units.EntryAddress.{EntryAddress}
 use Rattle.geometry.specs.declared.units.Place.{Place}
 use Rattle.geometry.specs.Units.{placeOf, offsetOf}
+use Rattle.layout.specs.FirstRecordWords.{nexWord, aexWord}
+use Rattle.layout.specs.EntryWords.{entryCodeWord, versionWord, nsecWord, nwordWord, adataWord, ldataWord, xnumWord, identifierWord, lengthWord, addressWord, firstContent, descriptorWords, entryCode}
 use Rattle.descriptor.specs.declared.numbers.DescriptorNumbers.{DescriptorNumbers}
 use Rattle.descriptor.specs.FirstRecord.{freeOf}
-use Rattle.entry.specs.EntryDescriptor.{wordOffset, entryCode}
-use Rattle.entry.specs.Contents.{firstContent}
+use Rattle.entry.specs.EntryDescriptor.{wordOffset}
 use Rattle.entry.specs.Opening.{slotPositionOf}
 use Rattle.writer.specs.declared.storing.Head.{Head}
 use Rattle.writer.specs.Creation.{field, countWrites}
@@ -31,26 +33,30 @@ abbrev pub lengthBytes : List ℤ → List ℕ
 lengthBytes [] = []
 lengthBytes (z ∷ zs) = signedNumeral integer8 z ++ lengthBytes zs
 
--- the addresses of sections that stand one after another, the first at word a
-abbrev pub addressBytes : ℕ → List ℤ → List ℕ
+-- the address so many words behind another
+abbrev pub behind : EntryAddress → ℕ → EntryAddress
+behind a words = record { 0 = a .0 + words }
+
+-- the addresses of sections that stand one after another, the first at a
+abbrev pub addressBytes : EntryAddress → List ℤ → List ℕ
 addressBytes a [] = []
-addressBytes a (z ∷ zs) = numeral 8 a ++ addressBytes (a + wordsOf z) zs
+addressBytes a (z ∷ zs) = numeral 8 (a .0) ++ addressBytes (behind a (wordsOf z)) zs
 
 -- the new area: the words skipped and the area become zero, nex and its address are set
 abbrev pub areaWrites : DescriptorNumbers → List Write
 areaWrites d =
     put (offsetOf (freeOf d)) (zeros (offsetOf (entryStart d - freeOf d))) ∷
-    field 13 (numeral 4 (d .nex + 1)) ∷
-    field (15 + 2 * d .nex) (numeral 8 (newArea d .0)) ∷
+    field nexWord (numeral 4 (d .nex + 1)) ∷
+    field (aexWord (d .nex)) (numeral 8 (newArea d .0)) ∷
     []
 
--- the numbers in an entry's words 2 to 11: of so many sections, words of sections and words of data. adata is 0 without data
+-- the numbers in an entry's head: of so many sections, words of sections and words of data. adata is 0 without data
 unfoldable pub headFrom : ℤ → ℕ → ℕ → ℕ → EntryNumber → Head
 headFrom version nsec words ldata number = record {
   version = version;
   nsec = nsec;
-  nword = 11 + 5 * nsec + words + ldata;
-  adata = cond (eqb ldata 0) 0 (firstContent nsec + words);
+  nword = descriptorWords nsec + words + ldata;
+  adata = record { 0 = cond (eqb ldata 0) 0 (firstContent nsec .0 + words) };
   ldata = ldata;
   xnum = number;
 }
@@ -58,32 +64,32 @@ headFrom version nsec words ldata number = record {
 abbrev pub headOf : Handed → EntryNumber → Head
 headOf h number = headFrom (h .version) (nsecIn h) (sumOf (h .lengths)) (ldataIn h) number
 
--- words 1 to 11 of the entry that starts at a position
+-- the head of the entry that starts at a position
 abbrev pub headWrites : ℕ → Head → List Write
 headWrites start head =
-    put (wordOffset start 1) entryCode ∷
-    put (wordOffset start 2) (signedNumeral integer4 (head .version)) ∷
-    put (wordOffset start 3) (numeral 4 (head .nsec)) ∷
-    put (wordOffset start 4) (numeral 8 (head .nword)) ∷
-    put (wordOffset start 6) (numeral 8 (head .adata)) ∷
-    put (wordOffset start 8) (numeral 8 (head .ldata)) ∷
-    put (wordOffset start 10) (numeral 8 (head .xnum .0)) ∷
+    put (wordOffset start entryCodeWord) entryCode ∷
+    put (wordOffset start versionWord) (signedNumeral integer4 (head .version)) ∷
+    put (wordOffset start nsecWord) (numeral 4 (head .nsec)) ∷
+    put (wordOffset start nwordWord) (numeral 8 (head .nword)) ∷
+    put (wordOffset start adataWord) (numeral 8 (head .adata .0)) ∷
+    put (wordOffset start ldataWord) (numeral 8 (head .ldata)) ∷
+    put (wordOffset start xnumWord) (numeral 8 (head .xnum .0)) ∷
     []
 
 -- its tables
 abbrev pub tableWrites : ℕ → List ℤ → List ℤ → List Write
 tableWrites start ids lengths =
     let n = length ids in
-    put (wordOffset start 12) (identifierBytes ids) ∷
-    put (wordOffset start (12 + n)) (lengthBytes lengths) ∷
-    put (wordOffset start (12 + 3 * n)) (addressBytes (firstContent n) lengths) ∷
+    put (wordOffset start (identifierWord 0)) (identifierBytes ids) ∷
+    put (wordOffset start (lengthWord n 0)) (lengthBytes lengths) ∷
+    put (wordOffset start (addressWord n 0)) (addressBytes (firstContent n) lengths) ∷
     []
 
 -- its sections in order, and its data
 abbrev pub contentWrites : ℕ → Handed → List Write
 contentWrites start h =
     put (wordOffset start (firstContent (nsecIn h))) (h .sections) ∷
-    put (wordOffset start (firstContent (nsecIn h) + sumOf (h .lengths))) (h .values) ∷
+    put (wordOffset start (behind (firstContent (nsecIn h)) (sumOf (h .lengths)))) (h .values) ∷
     []
 
 -- its index: the record and the word where it starts, and the application's words

@@ -9,9 +9,9 @@ mod creating;
 mod fields;
 pub mod inner;
 mod placing;
+mod rules;
 mod storing;
 mod tables;
-mod testing;
 
 pub use appending::Appended;
 pub use appending::append;

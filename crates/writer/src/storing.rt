@@ -10,9 +10,18 @@ use descriptor::DescriptorNumbers;
 use descriptor::inner::free_position;
 use geometry::EntryAddress;
 use geometry::EntryNumber;
+use geometry::ExtensionNumber;
 use geometry::Place;
 use geometry::byte_offset;
 use geometry::entry_position;
+use layout::entry_descriptor;
+use layout::entry_descriptor::address_word;
+use layout::entry_descriptor::descriptor_words;
+use layout::entry_descriptor::first_content;
+use layout::entry_descriptor::identifier_word;
+use layout::entry_descriptor::length_word;
+use layout::first_record;
+use layout::first_record::aex_word;
 ghost use mathlib.Core.Path.{_≡_};
 ghost use mathlib.Core.Bool.{true, cond};
 ghost use Prim.Native.Nat.{_+_, _*_, _^_, _≤_, _<_};
@@ -22,34 +31,34 @@ ghost use Rattle.outcome.specs.Outcome.{Answers, Leaves};
 ghost use Rattle.image.specs.Image.{splice};
 ghost use Rattle.image.specs.Writes.{writes};
 ghost use Rattle.words.specs.Word.{numeral};
+ghost use Rattle.layout.specs.EntryWords.{firstContent, headWords, descriptorWords, sectionsMax};
 ghost use Rattle.descriptor.specs.FirstRecord.{freeOf};
 ghost use Rattle.descriptor.specs.Bounds.{Settled, Free};
 ghost use Rattle.entry.specs.EntryDescriptor.{wordOffset};
-ghost use Rattle.entry.specs.Contents.{firstContent};
 ghost use Rattle.writer.specs.Handed.{sumOf, positive};
 ghost use Rattle.writer.specs.Placing.{full, entryStart};
 ghost use Rattle.writer.specs.Writing.{areaWritten, headFrom, headWrites, tableWrites, slotWrites};
 ghost use Rattle.writer.specs.Bounds.{Extensible};
 
-// The numbers in the words 2 to 11 of an entry.
+// The numbers in the head of an entry.
 pub struct Head {
     pub version: i32,
     pub nsec: u64,
     pub nword: u64,
-    pub adata: u64,
+    pub adata: EntryAddress,
     pub ldata: u64,
     pub xnum: EntryNumber,
 }
 
 // The address of the data behind sections of so many words, 0 without data.
-fn adata_of(nsec: u64, section_words: u64, ldata: u64) -> u64
-    requires { ⌜ (nsec ≤ 64) × («section_words» < 2 ^ 62) ⌝ }
-    ensures { λ r. ⌜ Answers (cond (eqb ldata 0) 0 (firstContent nsec + «section_words»)) r ⌝ }
+fn adata_of(nsec: u64, section_words: u64, ldata: u64) -> EntryAddress
+    requires { ⌜ (nsec ≤ sectionsMax) × («section_words» < 2 ^ 62) ⌝ }
+    ensures { λ r. ⌜ Answers (record { 0 = cond (eqb ldata 0) 0 (firstContent nsec .0 + «section_words») }) r ⌝ }
 {
     if ldata == 0 {
-        return 0;
+        return EntryAddress(0);
     }
-    12 + 5 * nsec + section_words
+    EntryAddress(first_content(nsec).0 + section_words)
 }
 
 // The head of an entry with so many sections, words of sections and words of data.
@@ -60,13 +69,13 @@ pub(crate) fn head_of(
     ldata: u64,
     number: EntryNumber,
 ) -> Head
-    requires { ⌜ (nsec ≤ 64) × («section_words» < 2 ^ 62) × (ldata < 2 ^ 62) ⌝ }
+    requires { ⌜ (nsec ≤ sectionsMax) × («section_words» < 2 ^ 62) × (ldata < 2 ^ 62) ⌝ }
     ensures { λ r. ⌜ Answers (headFrom version nsec «section_words» ldata number) r ⌝ }
 {
     Head {
         version,
         nsec,
-        nword: 11 + 5 * nsec + section_words + ldata,
+        nword: descriptor_words(nsec) + section_words + ldata,
         adata: adata_of(nsec, section_words, ldata),
         ldata,
         xnum: number,
@@ -83,77 +92,76 @@ pub(crate) fn put_area(file: &mut [u8], d: DescriptorNumbers, extend: bool, star
     if extend {
         let free = free_position(d);
         image::zero(file, byte_offset(free), byte_offset(start - free));
-        put_field4(file, 13, d.nex + 1);
-        put_field8(file, 15 + 2 * d.nex, new_area(d).0);
+        put_field4(file, first_record::NEX, d.nex + 1);
+        let word = aex_word(ExtensionNumber(d.nex + 1));
+        put_field8(file, word, new_area(d).0);
     }
 }
 
 // Writes the Integer*8 at a word of the entry and the next.
-fn put_word8(file: &mut [u8], start: u64, address: u64, bits: u64)
-    requires { ⌜ (1 ≤ address) × (start + address < 2 ^ 32) × (4 * (start + address + 1) ≤ length (now file)) ⌝ }
+fn put_word8(file: &mut [u8], start: u64, address: EntryAddress, bits: u64)
+    requires { ⌜ (1 ≤ address .0) × (start + address .0 < 2 ^ 32) × (4 * (start + address .0 + 1) ≤ length (now file)) ⌝ }
     ensures { λ _. ⌜ Leaves (splice (now (file .entry)) (wordOffset start address) (numeral 8 bits)) (now (file .exit)) ⌝ }
 {
-    words::put_u64(
-        file,
-        byte_offset(entry_position(start, EntryAddress(address))),
-        bits,
-    )
+    words::put_u64(file, byte_offset(entry_position(start, address)), bits)
 }
 
-// Writes words 1 to 11 of the entry.
+// Writes the head of the entry.
 pub(crate) fn put_head(file: &mut [u8], start: u64, head: Head)
-    requires { ⌜ (start < 2 ^ 31) × (4 * (start + 11) ≤ length (now file)) × (head .nsec ≤ 64) ⌝ }
+    requires { ⌜ (start < 2 ^ 31) × (4 * (start + headWords) ≤ length (now file)) × (head .nsec ≤ sectionsMax) ⌝ }
     ensures { λ _. ⌜ Leaves (writes (now (file .entry)) (headWrites start head)) (now (file .exit)) ⌝ }
 {
-    let code = [0x32u8, 0x20u8, 0x20u8, 0x20u8];
+    let code = entry_descriptor::ENTRY_CODE;
     image::put(
         file,
-        byte_offset(entry_position(start, EntryAddress(1))),
+        byte_offset(entry_position(start, entry_descriptor::CODE)),
         &code,
     );
     words::put_i32(
         file,
-        byte_offset(entry_position(start, EntryAddress(2))),
+        byte_offset(entry_position(start, entry_descriptor::VERSION)),
         head.version,
     );
     words::put_u32(
         file,
-        byte_offset(entry_position(start, EntryAddress(3))),
+        byte_offset(entry_position(start, entry_descriptor::NSEC)),
         head.nsec as u32,
     );
-    put_word8(file, start, 4, head.nword);
-    put_word8(file, start, 6, head.adata);
-    put_word8(file, start, 8, head.ldata);
-    put_word8(file, start, 10, head.xnum.0);
+    put_word8(file, start, entry_descriptor::NWORD, head.nword);
+    put_word8(file, start, entry_descriptor::ADATA, head.adata.0);
+    put_word8(file, start, entry_descriptor::LDATA, head.ldata);
+    put_word8(file, start, entry_descriptor::XNUM, head.xnum.0);
 }
 
 // Writes the tables of the entry.
 pub(crate) fn put_tables(file: &mut [u8], start: u64, ids: &[i32], lengths: &[i64])
-    requires { ⌜ (start < 2 ^ 31) × (length (now ids) ≤ 64) × (length (now lengths) ≡ length (now ids)) × (4 * (start + 11 + 5 * length (now ids)) ≤ length (now file))
+    requires { ⌜ (start < 2 ^ 31) × (length (now ids) ≤ sectionsMax) × (length (now lengths) ≡ length (now ids)) × (4 * (start + descriptorWords (length (now ids))) ≤ length (now file))
         × (positive (now lengths) (length (now lengths)) ≡ true) × (sumOf (now lengths) < 2 ^ 62) ⌝ }
     ensures { λ _. ⌜ Leaves (writes (now (file .entry)) (tableWrites start (now (ids .entry)) (now (lengths .entry)))) (now (file .exit)) ⌝ }
 {
     let nsec = ids.len() as u64;
-    put_identifiers(file, entry_position(start, EntryAddress(12)), ids);
-    put_lengths(
-        file,
-        entry_position(start, EntryAddress(12 + nsec)),
-        lengths,
-    );
+    put_identifiers(file, entry_position(start, identifier_word(0)), ids);
+    put_lengths(file, entry_position(start, length_word(nsec, 0)), lengths);
     put_addresses(
         file,
-        entry_position(start, EntryAddress(12 + 3 * nsec)),
-        12 + 5 * nsec,
+        entry_position(start, address_word(nsec, 0)),
+        first_content(nsec),
         lengths,
     );
 }
 
 // Writes the sections and the data of the entry, from a word of it on.
-pub(crate) fn put_content(file: &mut [u8], start: u64, first: u64, sections: &[u8], values: &[u8])
-    requires { ⌜ (1 ≤ first) × (start + first < 2 ^ 32) × (wordOffset start first + length (now sections) + length (now values) ≤ length (now file)) ⌝ }
+pub(crate) fn put_content(
+    file: &mut [u8],
+    start: u64,
+    first: EntryAddress,
+    sections: &[u8],
+    values: &[u8],
+)
+    requires { ⌜ (1 ≤ first .0) × (start + first .0 < 2 ^ 32) × (wordOffset start first + length (now sections) + length (now values) ≤ length (now file)) ⌝ }
     ensures { λ _. ⌜ Leaves (splice (splice (now (file .entry)) (wordOffset start first) (now (sections .entry))) (wordOffset start first + length (now (sections .entry))) (now (values .entry))) (now (file .exit)) ⌝ }
 {
-    let at = byte_offset(entry_position(start, EntryAddress(first)));
+    let at = byte_offset(entry_position(start, first));
     image::put(file, at, sections);
     image::put(file, at + sections.len(), values);
 }

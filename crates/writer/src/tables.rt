@@ -1,4 +1,5 @@
 // Writing the three tables of an entry descriptor.
+use geometry::EntryAddress;
 use geometry::byte_offset;
 ghost use mathlib.Core.Path.{_≡_};
 ghost use mathlib.Core.Bool.{true};
@@ -7,12 +8,13 @@ ghost use lib.ListN.{length};
 ghost use Rattle.outcome.specs.Outcome.{Leaves};
 ghost use Rattle.image.specs.Image.{splice};
 ghost use Rattle.geometry.specs.Units.{offsetOf};
+ghost use Rattle.layout.specs.EntryWords.{sectionsMax};
 ghost use Rattle.writer.specs.Handed.{sumOf, positive};
 ghost use Rattle.writer.specs.Writing.{identifierBytes, lengthBytes, addressBytes};
 
 // Writes identifiers one after another from a position on.
 pub(crate) fn put_identifiers(file: &mut [u8], position: u64, ids: &[i32])
-    requires { ⌜ (position < 2 ^ 32) × (length (now ids) ≤ 64) × (4 * (position + length (now ids)) ≤ length (now file)) ⌝ }
+    requires { ⌜ (position < 2 ^ 32) × (length (now ids) ≤ sectionsMax) × (4 * (position + length (now ids)) ≤ length (now file)) ⌝ }
     ensures { λ _. ⌜ Leaves (splice (now (file .entry)) (offsetOf position) (identifierBytes (now (ids .entry)))) (now (file .exit)) ⌝ }
 {
     let mut done = 0;
@@ -25,7 +27,7 @@ pub(crate) fn put_identifiers(file: &mut [u8], position: u64, ids: &[i32])
 
 // Writes lengths one after another from a position on.
 pub(crate) fn put_lengths(file: &mut [u8], position: u64, lengths: &[i64])
-    requires { ⌜ (position < 2 ^ 32) × (length (now lengths) ≤ 64) × (4 * (position + 2 * length (now lengths)) ≤ length (now file)) ⌝ }
+    requires { ⌜ (position < 2 ^ 32) × (length (now lengths) ≤ sectionsMax) × (4 * (position + 2 * length (now lengths)) ≤ length (now file)) ⌝ }
     ensures { λ _. ⌜ Leaves (splice (now (file .entry)) (offsetOf position) (lengthBytes (now (lengths .entry)))) (now (file .exit)) ⌝ }
 {
     let mut done = 0;
@@ -36,14 +38,14 @@ pub(crate) fn put_lengths(file: &mut [u8], position: u64, lengths: &[i64])
     }
 }
 
-// Writes the addresses of sections of these lengths, the first at word `first` of its entry, one
-// address after another from a position on.
-pub(crate) fn put_addresses(file: &mut [u8], position: u64, first: u64, lengths: &[i64])
-    requires { ⌜ (position < 2 ^ 32) × (length (now lengths) ≤ 64) × (4 * (position + 2 * length (now lengths)) ≤ length (now file))
-        × (positive (now lengths) (length (now lengths)) ≡ true) × (first + sumOf (now lengths) < 2 ^ 63) ⌝ }
+// Writes the addresses of sections of these lengths, the first at `first` in its entry, one address
+// after another from a position on.
+pub(crate) fn put_addresses(file: &mut [u8], position: u64, first: EntryAddress, lengths: &[i64])
+    requires { ⌜ (position < 2 ^ 32) × (length (now lengths) ≤ sectionsMax) × (4 * (position + 2 * length (now lengths)) ≤ length (now file))
+        × (positive (now lengths) (length (now lengths)) ≡ true) × (first .0 + sumOf (now lengths) < 2 ^ 63) ⌝ }
     ensures { λ _. ⌜ Leaves (splice (now (file .entry)) (offsetOf position) (addressBytes first (now (lengths .entry)))) (now (file .exit)) ⌝ }
 {
-    let mut address = first;
+    let mut address = first.0;
     let mut done = 0;
     while done < lengths.len() {
         words::put_u64(file, byte_offset(position + 2 * (done as u64)), address);

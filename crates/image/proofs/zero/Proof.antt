@@ -16,29 +16,11 @@ Inv-loop image₀ at count done₀ image done = (done ≤ count) × (length imag
 abbrev μ-loop : tie.MeasureT-loop
 μ-loop image₀ at count done₀ image done = count - done
 
-loop-holds : tie.Need-loop-holds Inv-loop μ-loop
-loop-holds c = (omega arith, refl, sym (splice-nil _ _))
-
-add-image : tie.Need-add-image Inv-loop μ-loop
-add-image c = omega arith
-
-slice-write-image : tie.Need-slice-write-image Inv-loop μ-loop
-slice-write-image c = omega arith
-
-add-done : tie.Need-add-done Inv-loop μ-loop
-add-done c = omega arith
-
-loop-less : tie.Need-loop-less Inv-loop μ-loop
-loop-less c = omega arith
-
 loop-again : tie.Need-loop-again Inv-loop μ-loop
 loop-again c =
     let a = c .before .before .args in
     let l = c .before .loop in
     (omega arith, simp length-set (l .inv .1), zeros-next (now (a .image)) (a .at) (a .count) (l .image) (l .done) (l .inv .2) (omega arith) (omega arith))
-
-same-length : tie.Need-same-length Inv-loop μ-loop
-same-length c = omega arith
 
 returns : tie.Need-returns Inv-loop μ-loop
 returns c =
@@ -51,11 +33,11 @@ zero-spec =
     (tie.spec
     Inv-loop
     μ-loop
-    loop-holds
-    add-image
-    slice-write-image
-    add-done
-    loop-less
+    (λ c. (omega arith, refl, sym (splice-nil _ _)))
+    (λ c. omega arith)
+    (λ c. omega arith)
+    (λ c. omega arith)
+    (λ c. omega arith)
     loop-again
-    same-length
+    (λ c. omega arith)
     returns)

@@ -8,9 +8,6 @@ use Rattle.listing.proofs.Room.{counted}
 use Rattle.list.proofs.write_listing.Statement.{statement}
 use Rattle.list.proofs.write_listing.Tie as tie
 
-list-input-requires : tie.Need-list-input-requires
-list-input-requires c κs = search needs
-
 -- what the answer counts
 count : (c : tie.After-list-input) → let l = c .list-input in
     (l .result ≤ length (l .last .1 .0)) × (l .result ≡ length (take (l .result) (l .last .1 .0)))
@@ -25,18 +22,12 @@ array-share-prefix-output c = count c .0
 slice-aggregate-write-all : tie.Need-slice-aggregate-write-all
 slice-aggregate-write-all c = count (c .before) .1
 
-write-all-requires : tie.Need-write-all-requires
-write-all-requires c κs = search needs
-
-returns : tie.Need-returns
-returns c = search needs
-
 pub write-listing-spec : {M : Type 1} → statement M
 write-listing-spec =
     tie.close
     (tie.spec
-    list-input-requires
+    (λ c κs. search needs)
     array-share-prefix-output
     slice-aggregate-write-all
-    write-all-requires
-    returns)
+    (λ c κs. search needs)
+    (λ c. search needs))

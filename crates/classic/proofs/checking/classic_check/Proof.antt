@@ -5,11 +5,5 @@ use borrow.Author.Needs.{needs}
 use Rattle.classic.proofs.checking.classic_check.Statement.{statement}
 use Rattle.classic.proofs.checking.classic_check.Tie as tie
 
-check-order-requires : tie.Need-check-order-requires
-check-order-requires c κs = search needs
-
-returns : tie.Need-returns
-returns c = ap checkedFor (c .check-order .ensures)
-
 pub classic-check-spec : {M : Type 1} → statement M
-classic-check-spec = tie.close (tie.spec check-order-requires returns)
+classic-check-spec = tie.close (tie.spec (λ c κs. search needs) (λ c. ap checkedFor (c .check-order .ensures)))

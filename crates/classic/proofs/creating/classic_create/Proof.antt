@@ -14,18 +14,13 @@ crossed c =
     settings-passed (c .before .before .args .settings) (sfits-of (g .0 .1)) (sfits-of (g .1 .0 .1)) (sfits-of (g .1 .1 .0 .1)) (sfits-of (g .1 .1 .1 .0 .1))
     (sfits-of (g .1 .1 .1 .1 .0 .1)) (sfits-of (g .1 .1 .1 .1 .1 .0 .1)) (sfits-of (g .1 .1 .1 .1 .1 .1 .0 .1))
 
-create-requires : tie.Need-create-requires
-create-requires c κs = search needs
-
-same-length : tie.Need-same-length
-same-length c = search needs
-
 returns : tie.Need-returns
 returns c =
-    let file = c .before .before .before .before .before .before .args .file .now in
+    let t = c .before .before .before .before in
+    let file = t .before .before .args .file .now in
     let made = c .before .before .create .ensures in
-    let same = crossed (c .before .before .before .before) in
+    let same = crossed t in
     (made .0 ∙ ap (creationRefusal (length file)) same, made .1 ∙ ap (createdFile file) same)
 
 pub classic-create-spec : {M : Type 1} → statement M
-classic-create-spec = tie.close (tie.spec create-requires same-length returns)
+classic-create-spec = tie.close (tie.spec (λ c κs. search needs) (λ c. search needs) returns)

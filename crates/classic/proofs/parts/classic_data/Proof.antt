@@ -12,14 +12,5 @@ inside c =
     let a = c .before .before .args in
     rw (c .data-array-place .ensures) (data-words-inside (a .file .now) (record { 0 = a .entry }))
 
-data-array-place-requires : tie.Need-data-array-place-requires
-data-array-place-requires c κs = search needs
-
-part-at-requires : tie.Need-part-at-requires
-part-at-requires c κs = inside c .ordered
-
-returns : tie.Need-returns
-returns c = c .part-at .ensures ∙ ap partFor (c .before .data-array-place .ensures)
-
 pub classic-data-spec : {M : Type 1} → statement M
-classic-data-spec = tie.close (tie.spec data-array-place-requires part-at-requires returns)
+classic-data-spec = tie.close (tie.spec (λ c κs. search needs) (λ c κs. inside c .ordered) (λ c. c .part-at .ensures ∙ ap partFor (c .before .data-array-place .ensures)))

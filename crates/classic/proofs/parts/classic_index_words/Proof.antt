@@ -12,14 +12,5 @@ inside c =
     let a = c .before .before .args in
     rw (c .index-words-place .ensures) (index-words-inside (a .file .now) (record { 0 = a .entry }))
 
-index-words-place-requires : tie.Need-index-words-place-requires
-index-words-place-requires c κs = search needs
-
-part-at-requires : tie.Need-part-at-requires
-part-at-requires c κs = inside c .ordered
-
-returns : tie.Need-returns
-returns c = c .part-at .ensures ∙ ap partFor (c .before .index-words-place .ensures)
-
 pub classic-index-words-spec : {M : Type 1} → statement M
-classic-index-words-spec = tie.close (tie.spec index-words-place-requires part-at-requires returns)
+classic-index-words-spec = tie.close (tie.spec (λ c κs. search needs) (λ c κs. inside c .ordered) (λ c. c .part-at .ensures ∙ ap partFor (c .before .index-words-place .ensures)))

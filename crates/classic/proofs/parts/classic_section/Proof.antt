@@ -17,14 +17,5 @@ inside c =
     let a = c .before .before .args in
     rw (placed c) (section-words-inside (a .file .now) (record { 0 = a .entry }) (a .identifier))
 
-section-place-requires : tie.Need-section-place-requires
-section-place-requires c κs = search needs
-
-part-at-requires : tie.Need-part-at-requires
-part-at-requires c κs = inside c .ordered
-
-returns : tie.Need-returns
-returns c = c .part-at .ensures ∙ ap partFor (placed (c .before))
-
 pub classic-section-spec : {M : Type 1} → statement M
-classic-section-spec = tie.close (tie.spec section-place-requires part-at-requires returns)
+classic-section-spec = tie.close (tie.spec (λ c κs. search needs) (λ c κs. inside c .ordered) (λ c. c .part-at .ensures ∙ ap partFor (placed (c .before))))

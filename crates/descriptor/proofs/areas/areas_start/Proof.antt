@@ -1,5 +1,5 @@
 -- `descriptor::areas::areas_start` meets its contract. The loop's invariant: `after` is the record after the areas passed, which keep their order. Assumes nothing.
-use mathlib.Core.Path.{_≡_, sym, ap, _∙_}
+use mathlib.Core.Path.{_≡_, sym, ap, subst, _∙_}
 use Prim.Native.Nat.{_-_, _+_, _≤_}
 use mathlib.Core.Bool.{true}
 use native.Mathlib.Omega.{arith}
@@ -10,12 +10,14 @@ use Rattle.words.specs.Range.{atLeast}
 use Rattle.words.proofs.Ranges.{atLeast-bounds}
 use Rattle.words.proofs.Runs.{run-next, run-failed}
 use Rattle.geometry.specs.declared.units.RecordNumber.{RecordNumber}
-use Rattle.geometry.specs.Growth.{capacityOf}
+use Rattle.geometry.specs.declared.growth.Growth.{Growth}
+use Rattle.geometry.specs.Growth.{capacityOf, Growing}
+use Rattle.geometry.specs.Area.{areaRecords}
 use Rattle.geometry.proofs.Capacities.{capacity-limit}
 use Rattle.descriptor.specs.FirstRecord.{growthIn, aexOf}
-use Rattle.descriptor.specs.Rules.{areaAfter, areasStart}
+use Rattle.descriptor.specs.Areas.{areaAfter, areasStart}
 use Rattle.descriptor.proofs.Tests.{holds, broken}
-use Rattle.descriptor.proofs.AreaOrder.{after-none, after-next, starts-none, starts-run, area-small, growing}
+use Rattle.descriptor.proofs.AreaOrder.{record-none, record-next, starts-none, starts-run, area-small, growing}
 use Rattle.descriptor.proofs.areas.areas_start.Statement.{statement}
 use Rattle.descriptor.proofs.areas.areas_start.Tie as tie
 
@@ -25,86 +27,81 @@ Inv-loop d addresses growth after₀ passed₀ after passed = (passed ≤ d .nex
 abbrev μ-loop : tie.MeasureT-loop
 μ-loop d addresses growth after₀ passed₀ after passed = d .nex - passed
 
-new-requires : tie.Need-new-requires Inv-loop μ-loop
-new-requires c κs = search needs
+-- the places of the loop, and what is known there
+abbrev at-loop : tie.After-aex Inv-loop μ-loop → tie.At-loop Inv-loop μ-loop
+at-loop c = c .before .before .before
 
-loop-holds : tie.Need-loop-holds Inv-loop μ-loop
-loop-holds c = (omega arith, sym (after-none _ _), starts-none _ _)
+abbrev start : tie.At-loop Inv-loop μ-loop → tie.Start Inv-loop μ-loop
+start l = l .before .before
 
-add-after : tie.Need-add-after Inv-loop μ-loop
-add-after c = omega arith
-
-aex-requires : tie.Need-aex-requires Inv-loop μ-loop
-aex-requires c κs = omega arith
-
-at-least8-requires : tie.Need-at-least8-requires Inv-loop μ-loop
-at-least8-requires c κs = search needs
+abbrev own-loop : tie.After-capacity Inv-loop μ-loop → tie.At-loop Inv-loop μ-loop
+own-loop c = at-loop (c .before .before .before)
 
 -- what the loop's test says of the next area
-test : (c : tie.After-at-least8 Inv-loop μ-loop) → let s = c .before .before .before .before .before .before in
-    let k = c .before .before .before .before .loop .passed in
-    c .at-least8 .result ≡ atLeast (areaAfter (s .args .d) (s .args .addresses) k) (signedOf w64 (aexOf (s .args .addresses) (k + 1) .0))
-test c = rw (c .before .aex .ensures, c .before .before .before .before .loop .inv .1) at (c .at-least8 .ensures)
+test : (c : tie.After-at-least8 Inv-loop μ-loop) → let l = at-loop (c .before) in
+    let a = start l .args in
+    c .at-least8 .result ≡ atLeast (areaAfter (a .d) (a .addresses) (l .loop .passed) .0) (signedOf w64 (aexOf (a .addresses) (l .loop .passed + 1) .0))
+test c = rw (c .before .aex .ensures, at-loop (c .before) .loop .inv .1) at (c .at-least8 .ensures)
 
 -- the capacity of the next extension
-own : (c : tie.After-capacity Inv-loop μ-loop) → let s = c .before .before .before .before .before .before .before .before in
-    c .capacity .result ≡ capacityOf (growthIn (s .args .d)) (c .before .before .before .before .before .before .loop .passed + 1)
-own c = rw (c .before .before .before .before .before .before .before .new .ensures) at (c .capacity .ensures)
+own : (c : tie.After-capacity Inv-loop μ-loop) → c .capacity .result ≡ capacityOf (growthIn (start (own-loop c) .args .d)) (own-loop c .loop .passed + 1)
+own c = rw (own-loop c .before .new .ensures) at (c .capacity .ensures)
 
 returns : tie.Need-returns Inv-loop μ-loop
 returns c =
-    let s = c .before .before .before .before .before .before .before in
-    let k = c .before .before .before .before .before .loop .passed in
-    sym (run-failed (starts-run (s .args .d) (s .args .addresses)) k (s .args .d .nex) (omega arith) (broken (test (c .before)) (c .if2 .taken)))
+    let l = at-loop (c .before .before) in
+    let a = start l .args in
+    sym (run-failed (starts-run (a .d) (a .addresses)) (l .loop .passed) (a .d .nex) (omega arith) (broken (test (c .before)) (c .if2 .taken)))
 
 capacity-requires : tie.Need-capacity-requires Inv-loop μ-loop
 capacity-requires c κs =
-    let s = c .before .before .before .before .before .before .before in
-    let k = c .before .before .before .before .before .loop .passed in
-    let q : k + 1 - 1 ≡ k = omega arith in
-    (omega arith, omega (arith, s .pre .nex-high), rw (q, c .before .before .before .before .before .before .new .ensures) (growing (s .args .d) k (s .pre) (omega arith)))
+    let l = at-loop (c .before .before) in
+    let s = start l in
+    let q : l .loop .passed + 1 - 1 ≡ l .loop .passed = omega arith in
+    let grows = subst (λ (g : Growth). Growing g (l .loop .passed)) (sym (l .before .new .ensures)) (growing (s .args .d) (l .loop .passed) (s .pre) (omega arith)) in
+    (omega arith, omega (arith, s .pre .nex-high), rw q grows)
 
 area-records-requires : tie.Need-area-records-requires Inv-loop μ-loop
 area-records-requires c κs =
-    let s = c .before .before .before .before .before .before .before .before in
-    let k = c .before .before .before .before .before .before .loop .passed in (
-      rw (own c) (capacity-limit (growthIn (s .args .d)) (k + 1) (s .args .d .nex) (omega arith) (omega arith) (s .pre .within)),
+    let l = own-loop c in
+    let s = start l in (
+      rw (own c) (capacity-limit (growthIn (s .args .d)) (l .loop .passed + 1) (s .args .d .nex) (omega arith) (omega arith) (s .pre .within)),
       s .pre .lind-high,
       omega (arith, s .pre .reclen-low),
       s .pre .reclen-high,
     )
 
-add-after-2 : tie.Need-add-after-2 Inv-loop μ-loop
-add-after-2 c =
-    let s = c .before .before .before .before .before .before .before .before .before .before in
-    let k = c .before .before .before .before .before .before .before .before .loop .passed in
-    let start = atLeast-bounds w64 (areaAfter (s .args .d) (s .args .addresses) k) (aexOf (s .args .addresses) (k + 1) .0)
-    (holds (test (c .before .before .before .before)) (c .before .before .before .if2 .left)) .1 in
-    let few = area-small (s .args .d) (s .args .addresses) (k + 1) (s .pre) (omega arith) (omega arith) in
-    omega (arith, rw (own (c .before .before)) at (c .before .area-records .ensures), ap (λ (r : RecordNumber). r .0) (c .before .before .before .before .before .aex .ensures))
+-- the records of the next area, and where it starts
+records : (c : tie.After-area-records Inv-loop μ-loop) → let l = own-loop (c .before) in
+    c .area-records .result ≡ areaRecords (capacityOf (growthIn (start l .args .d)) (l .loop .passed + 1)) (start l .args .d .lind) (start l .args .d .reclen)
+records c = rw (own (c .before)) at (c .area-records .ensures)
 
-add-passed : tie.Need-add-passed Inv-loop μ-loop
-add-passed c = omega arith
-
-loop-less : tie.Need-loop-less Inv-loop μ-loop
-loop-less c = omega arith
+add-t10 : tie.Need-add-t10 Inv-loop μ-loop
+add-t10 c =
+    let r = c .before in
+    let l = own-loop (r .before) in
+    let s = start l in
+    let tested = r .before .before .before in
+    let low = atLeast-bounds w64 (areaAfter (s .args .d) (s .args .addresses) (l .loop .passed) .0) (aexOf (s .args .addresses) (l .loop .passed + 1) .0) (holds (test tested) (r .before .before .if2 .left)) .1 in
+    let few = area-small (s .args .d) (s .args .addresses) (l .loop .passed + 1) (s .pre) (omega arith) (omega arith) in
+    omega (arith, records r, ap (λ (r : RecordNumber). r .0) (tested .before .aex .ensures))
 
 loop-again : tie.Need-loop-again Inv-loop μ-loop
 loop-again c =
-    let s = c .before .before .before .before .before .before .before .before .before .before in
-    let l = c .before .before .before .before .before .before .before .before .loop in (
+    let r = c .before in
+    let l = own-loop (r .before) in
+    let a = start l .args in
+    let tested = r .before .before .before in (
       omega arith,
-      rw (c .before .before .before .before .before .aex .ensures, rw (own (c .before .before)) at (c .before .area-records .ensures)) (sym (after-next (s .args .d) (s .args .addresses) (l .passed))),
-      run-next (starts-run (s .args .d) (s .args .addresses)) (l .passed) (l .inv .2)
-          ∙ holds (test (c .before .before .before .before)) (c .before .before .before .if2 .left),
+      rw (tested .before .aex .ensures, records r) (sym (record-next (a .d) (a .addresses) (l .loop .passed))),
+      run-next (starts-run (a .d) (a .addresses)) (l .loop .passed) (l .loop .inv .2) ∙ holds (test tested) (r .before .before .if2 .left),
     )
 
 returns-2 : tie.Need-returns-2 Inv-loop μ-loop
 returns-2 c =
-    let s = c .before .before .before .before in
-    let l = c .before .before .loop in
-    let e : l .passed ≡ s .args .d .nex = omega arith in
-    sym (rw e at (l .inv .2))
+    let l = c .before .before in
+    let e : l .loop .passed ≡ start l .args .d .nex = omega arith in
+    sym (rw e at (l .loop .inv .2))
 
 pub areas-start-spec : {M : Type 1} → statement M
 areas-start-spec =
@@ -112,16 +109,16 @@ areas-start-spec =
     (tie.spec
     Inv-loop
     μ-loop
-    new-requires
-    loop-holds
-    add-after
-    aex-requires
-    at-least8-requires
+    (λ c κs. search needs)
+    (λ c. (omega arith, sym (record-none _ _), starts-none _ _))
+    (λ c. omega arith)
+    (λ c κs. omega arith)
+    (λ c κs. search needs)
     returns
     capacity-requires
     area-records-requires
-    add-after-2
-    add-passed
-    loop-less
+    add-t10
+    (λ c. omega arith)
+    (λ c. omega arith)
     loop-again
     returns-2)

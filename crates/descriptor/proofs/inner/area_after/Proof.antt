@@ -7,7 +7,7 @@ use Rattle.geometry.specs.Area.{areaRecords}
 use Rattle.geometry.specs.Growth.{capacityOf}
 use Rattle.geometry.proofs.Capacities.{capacity-limit}
 use Rattle.descriptor.specs.FirstRecord.{growthIn, aexOf}
-use Rattle.descriptor.proofs.AreaOrder.{after-none, after-next, area-low, area-small, growing}
+use Rattle.descriptor.proofs.AreaOrder.{record-none, record-next, area-low, area-small, growing}
 use borrow.Author.Needs.{needs}
 use Rattle.descriptor.proofs.inner.area_after.Statement.{statement}
 use Rattle.descriptor.proofs.inner.area_after.Tie as tie
@@ -19,12 +19,6 @@ own c = rw (c .before .new .ensures) at (c .capacity .ensures)
 records : (c : tie.After-area-records) → let a = c .before .before .before .before .args in
     c .area-records .result ≡ areaRecords (capacityOf (growthIn (a .d)) (a .count)) (a .d .lind) (a .d .reclen)
 records c = rw (own (c .before)) at (c .area-records .ensures)
-
-returns : tie.Need-returns
-returns c = rw (c .if1 .taken) (sym (after-none _ _))
-
-new-requires : tie.Need-new-requires
-new-requires c κs = search needs
 
 capacity-requires : tie.Need-capacity-requires
 capacity-requires c κs =
@@ -38,32 +32,31 @@ area-records-requires c κs =
     let limit = capacity-limit (growthIn (s .args .d)) (s .args .count) (s .args .d .nex) (omega arith) (s .pre .1) (p .within) in
     (rw (own c) limit, p .lind-high, omega (arith, p .reclen-low), p .reclen-high)
 
-aex-requires : tie.Need-aex-requires
-aex-requires c κs = search needs
-
-add-result : tie.Need-add-result
-add-result c =
-    let s = c .before .before .before .before .before .before in
+add-t7 : tie.Need-add-t7
+add-t7 c =
+    let r = c .before .before in
+    let s = r .before .before .before .before in
     let q : s .args .count - 1 + 1 ≡ s .args .count = omega arith in
     let start : aexOf (s .args .addresses) (s .args .count) .0 < 2 ^ 63 =
     rw q at (area-low (s .args .d) (s .args .addresses) (s .args .count - 1) (s .args .d .nex) (omega (arith, s .pre .1)) (s .pre .2) .1) in
     let few = area-small (s .args .d) (s .args .addresses) (s .args .count) (s .pre .0) (omega arith) (s .pre .1) in
-    omega (arith, records (c .before .before), ap (λ (r : RecordNumber). r .0) (c .before .aex .ensures))
+    omega (arith, records r, ap (λ (r : RecordNumber). r .0) (c .before .aex .ensures))
 
 returns-2 : tie.Need-returns-2
 returns-2 c =
-    let a = c .before .before .before .before .before .before .args in
+    let r = c .before .before in
+    let a = r .before .before .before .before .args in
     let q : a .count - 1 + 1 ≡ a .count = omega arith in
-    rw (c .before .aex .ensures, records (c .before .before)) (sym (rw q at (after-next (a .d) (a .addresses) (a .count - 1))))
+    rw (c .before .aex .ensures, records r) (sym (rw q at (record-next (a .d) (a .addresses) (a .count - 1))))
 
 pub area-after-spec : {M : Type 1} → statement M
 area-after-spec =
     tie.close
     (tie.spec
-    returns
-    new-requires
+    (λ c. rw (c .if1 .taken) (sym (record-none _ _)))
+    (λ c κs. search needs)
     capacity-requires
     area-records-requires
-    aex-requires
-    add-result
+    (λ c κs. search needs)
+    add-t7
     returns-2)

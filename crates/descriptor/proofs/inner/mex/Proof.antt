@@ -5,9 +5,6 @@ use borrow.Author.Needs.{needs}
 use Rattle.descriptor.proofs.inner.mex.Statement.{statement}
 use Rattle.descriptor.proofs.inner.mex.Tie as tie
 
-sub-room : tie.Need-sub-room
-sub-room c = search needs
-
 returns : tie.Need-returns
 unfolding mexOf
 returns c = omega arith
@@ -17,4 +14,4 @@ unfolding mexOf
 returns-2 c = omega arith
 
 pub mex-spec : {M : Type 1} → statement M
-mex-spec = tie.close (tie.spec sub-room returns returns-2)
+mex-spec = tie.close (tie.spec (λ c. search needs) returns returns-2)

@@ -4,15 +4,9 @@ use borrow.Author.Needs.{needs}
 use Rattle.descriptor.proofs.numbers.field8_at.Statement.{statement}
 use Rattle.descriptor.proofs.numbers.field8_at.Tie as tie
 
-first-record-offset-requires : tie.Need-first-record-offset-requires
-first-record-offset-requires c κs = search needs
-
-u64-at-requires : tie.Need-u64-at-requires
-u64-at-requires c κs = search needs
-
 returns : tie.Need-returns
 unfolding field8
 returns c = rw (c .before .first-record-offset .ensures) at (c .u64-at .ensures)
 
 pub field8-at-spec : {M : Type 1} → statement M
-field8-at-spec = tie.close (tie.spec first-record-offset-requires u64-at-requires returns)
+field8-at-spec = tie.close (tie.spec (λ c κs. search needs) (λ c κs. search needs) returns)

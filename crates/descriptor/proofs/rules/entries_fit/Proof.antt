@@ -9,20 +9,11 @@ use borrow.Author.Needs.{needs}
 use Rattle.descriptor.proofs.rules.entries_fit.Statement.{statement}
 use Rattle.descriptor.proofs.rules.entries_fit.Tie as tie
 
-returns : tie.Need-returns
-returns c = rw (c .if1 .taken) (sym (fit-none _ _))
-
-total-requires : tie.Need-total-requires
-total-requires c κs = search needs
-
 returns-2 : tie.Need-returns-2
 returns-2 c =
     let a = c .before .before .before .args in
     let some : 1 ≤ a .nex = omega (arith, c .before .before .if1 .left) in
     rw (fit-some (a .growth) (a .n) (a .nex) some, ← (c .before .total .ensures), lt-leb (a .n) (c .before .total .result) (c .if2 .taken))
-
-sub-total : tie.Need-sub-total
-sub-total c = search needs
 
 total-requires-2 : tie.Need-total-requires-2
 total-requires-2 c κs =
@@ -38,4 +29,4 @@ returns-3 c =
 
 pub entries-fit-spec : {M : Type 1} → statement M
 entries-fit-spec =
-    tie.close (tie.spec returns total-requires returns-2 sub-total total-requires-2 returns-3)
+    tie.close (tie.spec (λ c. rw (c .if1 .taken) (sym (fit-none _ _))) (λ c κs. search needs) returns-2 (λ c. search needs) total-requires-2 returns-3)

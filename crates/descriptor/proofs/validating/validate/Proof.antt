@@ -20,6 +20,9 @@ use Rattle.descriptor.proofs.validating.validate.Tie as tie
 abbrev file-of : tie.After-code-holds → List ℕ
 file-of c = c .before .before .before .args .file .now
 
+abbrev coded : tie.Else3 → tie.After-code-holds
+coded c = c .before .before .before .before
+
 -- what the tests passed show of the file
 long : (c : tie.Else1) → leb 64 (length (c .before .before .args .file .now)) ≡ true
 long c = le-leb 64 (length (c .before .before .args .file .now)) (c .if1 .left)
@@ -31,46 +34,28 @@ rest c = file-rest (file-of (c .before)) (long (c .before .before)) (holds (c .b
 setting : (c : tie.After-setting-refusal) → let file = file-of (c .before .before .before) in c .setting-refusal .result ≡ settingRefusal (length file) (numbersOf file)
 setting c = rw (c .before .numbers-of .ensures) at (c .setting-refusal .ensures)
 
-none : (c : tie.Else3) → let file = file-of (c .before .before .before .before) in settingRefusal (length file) (numbersOf file) ≡ 0
+none : (c : tie.Else3) → let file = file-of (coded c) in settingRefusal (length file) (numbersOf file) ≡ 0
 none c = sym (setting (c .before)) ∙ c .if3 .left
 
-fine : (c : tie.Else3) → Settled (numbersOf (file-of (c .before .before .before .before)))
-fine c = settled (length (file-of (c .before .before .before .before))) (numbersOf (file-of (c .before .before .before .before))) (none c)
+fine : (c : tie.Else3) → Settled (numbersOf (file-of (coded c)))
+fine c = settled _ _ (none c)
 
-last : (c : tie.After-filling-refusal) → fileRefusal (file-of (c .before .before .before .before .before .before)) ≡ c .filling-refusal .result
+last : (c : tie.After-filling-refusal) → fileRefusal (file-of (coded (c .before .before))) ≡ c .filling-refusal .result
 last c =
     let e = c .before .before in
     rest (e .before .before .before) ∙ rw (none e)
     (sym (rw (c .before .addresses-of .ensures, e .before .before .numbers-of .ensures) at (c .filling-refusal .ensures)))
-
-refused-requires : tie.Need-refused-requires
-refused-requires c κs = search needs
 
 returns : tie.Need-returns
 returns c =
     let file = c .before .before .before .args .file .now in
     c .refused .ensures ∙ sym (answer-refused file 1 (file-short file (lt-leb 64 (length file) (c .before .if1 .taken))) refl)
 
-code-holds-requires : tie.Need-code-holds-requires
-code-holds-requires c κs = search needs
-
-refused-requires-2 : tie.Need-refused-requires-2
-refused-requires-2 c κs = search needs
-
 returns-2 : tie.Need-returns-2
 returns-2 c =
     let file = file-of (c .before .before) in
     c .refused2 .ensures
     ∙ sym (answer-refused file 2 (file-code file (long (c .before .before .before)) (broken (c .before .before .code-holds .ensures) (c .before .if2 .taken))) refl)
-
-numbers-of-requires : tie.Need-numbers-of-requires
-numbers-of-requires c κs = search needs
-
-setting-refusal-requires : tie.Need-setting-refusal-requires
-setting-refusal-requires c κs = search needs
-
-refused-requires-3 : tie.Need-refused-requires-3
-refused-requires-3 c κs = search needs
 
 returns-3 : tie.Need-returns-3
 returns-3 c =
@@ -91,20 +76,17 @@ filling-refusal-requires c κs =
     let b = c .before in
     rw (b .before .before .numbers-of .ensures) (fine b, lent _ _ (none b) (b .before .before .before .before .before .if1 .left))
 
-refused-requires-4 : tie.Need-refused-requires-4
-refused-requires-4 c κs = search needs
-
 returns-4 : tie.Need-returns-4
 returns-4 c =
     let f = c .before .before in
-    let file = file-of (f .before .before .before .before .before .before) in
+    let file = file-of (coded (f .before .before)) in
     let other = ne-eqb (f .filling-refusal .result) 0 (c .before .if4 .taken) in
     c .refused4 .ensures ∙ sym (answer-refused file (f .filling-refusal .result) (last f) other)
 
 returns-5 : tie.Need-returns-5
 returns-5 c =
     let f = c .before in
-    let file = file-of (f .before .before .before .before .before .before) in
+    let file = file-of (coded (f .before .before)) in
     let none : fileRefusal file ≡ 0 = last f ∙ c .if4 .left in
     rw (f .before .addresses-of .ensures, f .before .before .before .before .numbers-of .ensures) (sym (answer-numbers file none))
 
@@ -112,17 +94,17 @@ pub validate-spec : {M : Type 1} → statement M
 validate-spec =
     tie.close
     (tie.spec
-    refused-requires
+    (λ c κs. search needs)
     returns
-    code-holds-requires
-    refused-requires-2
+    (λ c κs. search needs)
+    (λ c κs. search needs)
     returns-2
-    numbers-of-requires
-    setting-refusal-requires
-    refused-requires-3
+    (λ c κs. search needs)
+    (λ c κs. search needs)
+    (λ c κs. search needs)
     returns-3
     addresses-of-requires
     filling-refusal-requires
-    refused-requires-4
+    (λ c κs. search needs)
     returns-4
     returns-5)

@@ -9,12 +9,9 @@ returns : tie.Need-returns
 unfolding dataWithin
 returns c = rw (eq-eqb (c .before .before .args .piece .words) 0 (c .if1 .taken))
 
-piece-within-requires : tie.Need-piece-within-requires
-piece-within-requires c κs = search needs
-
 returns-2 : tie.Need-returns-2
 unfolding dataWithin
 returns-2 c = rw (ne-eqb (c .before .before .before .args .piece .words) 0 (c .before .if1 .left)) (c .piece-within .ensures)
 
 pub data-within-spec : {M : Type 1} → statement M
-data-within-spec = tie.close (tie.spec returns piece-within-requires returns-2)
+data-within-spec = tie.close (tie.spec returns (λ c κs. search needs) returns-2)

@@ -5,19 +5,13 @@ use Rattle.entry.specs.Contents.{apart}
 use Rattle.entry.proofs.contents.pieces_apart.Statement.{statement}
 use Rattle.entry.proofs.contents.pieces_apart.Tie as tie
 
-add-if1 : tie.Need-add-if1
-add-if1 c = search needs
-
 returns : tie.Need-returns
 unfolding apart
 returns c = rw (le-leb _ _ (c .if1 .taken))
-
-add-result : tie.Need-add-result
-add-result c = search needs
 
 returns-2 : tie.Need-returns-2
 unfolding apart
 returns-2 c = rw (lt-leb _ _ (c .before .before .if1 .left))
 
 pub pieces-apart-spec : {M : Type 1} → statement M
-pieces-apart-spec = tie.close (tie.spec add-if1 returns add-result returns-2)
+pieces-apart-spec = tie.close (tie.spec (λ c. search needs) returns (λ c. search needs) returns-2)

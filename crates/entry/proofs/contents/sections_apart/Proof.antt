@@ -21,9 +21,6 @@ loop-holds : tie.Need-loop-holds Inv-loop μ-loop
 unfolding sectionsApart
 loop-holds c = (omega arith, refl)
 
-section-at-requires : tie.Need-section-at-requires Inv-loop μ-loop
-section-at-requires c κs = search needs
-
 apart-from-requires : tie.Need-apart-from-requires Inv-loop μ-loop
 apart-from-requires c κs =
     let s = c .before .before .before .before in (
@@ -39,12 +36,6 @@ returns c =
     let s = c .before .before in
     sym (run-failed (sections-run _ _ _) _ _ (s .before .loop-test .taken)
     (rw (← (s .section-at .ensures), ← (c .before .apart-from .ensures)) (not-true _ (c .if1 .taken))))
-
-add-passed : tie.Need-add-passed Inv-loop μ-loop
-add-passed c = omega arith
-
-loop-less : tie.Need-loop-less Inv-loop μ-loop
-loop-less c = omega arith
 
 loop-again : tie.Need-loop-again Inv-loop μ-loop
 loop-again c =
@@ -66,10 +57,10 @@ sections-apart-spec =
     Inv-loop
     μ-loop
     loop-holds
-    section-at-requires
+    (λ c κs. search needs)
     apart-from-requires
     returns
-    add-passed
-    loop-less
+    (λ c. omega arith)
+    (λ c. omega arith)
     loop-again
     returns-2)

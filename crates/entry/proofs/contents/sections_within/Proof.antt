@@ -24,12 +24,6 @@ loop-holds : tie.Need-loop-holds Inv-loop μ-loop
 unfolding sectionsWithin
 loop-holds c = (omega arith, refl)
 
-section-at-requires : tie.Need-section-at-requires Inv-loop μ-loop
-section-at-requires c κs = search needs
-
-at-least8-requires : tie.Need-at-least8-requires Inv-loop μ-loop
-at-least8-requires c κs = search needs
-
 returns : tie.Need-returns Inv-loop μ-loop
 returns c =
     let s = c .before .before in
@@ -40,20 +34,11 @@ returns c =
 some : (c : tie.Else1 Inv-loop μ-loop) → atLeast 1 (signedOf integer8 (c .before .before .section-at .result .words)) ≡ true
 some c = rw (← (c .before .at-least8 .ensures)) (not-false _ (c .if1 .left))
 
-piece-within-requires : tie.Need-piece-within-requires Inv-loop μ-loop
-piece-within-requires c κs = omega (arith, atLeast-bounds integer8 1 (c .before .before .section-at .result .words) (some c))
-
 returns-2 : tie.Need-returns-2 Inv-loop μ-loop
 returns-2 c =
     let s = c .before .before .before .before in
     sym (run-failed (within-run _ _ _ _) _ _ (s .before .loop-test .taken)
     (rw (← (s .section-at .ensures), some (c .before .before), ← (c .before .piece-within .ensures)) (not-true _ (c .if2 .taken))))
-
-add-passed : tie.Need-add-passed Inv-loop μ-loop
-add-passed c = omega arith
-
-loop-less : tie.Need-loop-less Inv-loop μ-loop
-loop-less c = omega arith
 
 loop-again : tie.Need-loop-again Inv-loop μ-loop
 loop-again c =
@@ -75,12 +60,12 @@ sections-within-spec =
     Inv-loop
     μ-loop
     loop-holds
-    section-at-requires
-    at-least8-requires
+    (λ c κs. search needs)
+    (λ c κs. search needs)
     returns
-    piece-within-requires
+    (λ c κs. omega (arith, atLeast-bounds integer8 1 (c .before .before .section-at .result .words) (some c)))
     returns-2
-    add-passed
-    loop-less
+    (λ c. omega arith)
+    (λ c. omega arith)
     loop-again
     returns-3)

@@ -22,20 +22,11 @@ placed c =
     let o = opened (c .before .before .before) in
     data-placed (x .nsec) (x .nword) (x .array) (o .nword-small) (c .if2 .left) (o .data-within)
 
-enter-requires : tie.Need-enter-requires
-enter-requires c κs = search needs
-
-no-part-requires : tie.Need-no-part-requires
-no-part-requires c κs = search needs
-
 returns : tie.Need-returns
 unfolding dataPart
 returns c =
     let x = c .before .before .before .enter in
     c .no-part .ensures ∙ rw (← (x .ensures), ne-eqb (x .result .refusal) 0 (c .before .if1 .taken))
-
-no-part-requires-2 : tie.Need-no-part-requires-2
-no-part-requires-2 c κs = search needs
 
 returns-2 : tie.Need-returns-2
 unfolding dataPart
@@ -44,9 +35,6 @@ returns-2 c =
     let x = b .before .before .enter in
     c .no-part2 .ensures
     ∙ rw (← (x .ensures), eq-eqb (x .result .refusal) 0 (b .if1 .left), eq-eqb (x .result .array .words) 0 (c .before .if2 .taken))
-
-entry-position-requires : tie.Need-entry-position-requires
-entry-position-requires c κs = piece-stands _ _ _ _ _ (opened (c .before .before .before)) (placed c)
 
 words-from-requires : tie.Need-words-from-requires
 words-from-requires c κs =
@@ -65,11 +53,11 @@ pub data-part-spec : {M : Type 1} → statement M
 data-part-spec =
     tie.close
     (tie.spec
-    enter-requires
-    no-part-requires
+    (λ c κs. search needs)
+    (λ c κs. search needs)
     returns
-    no-part-requires-2
+    (λ c κs. search needs)
     returns-2
-    entry-position-requires
+    (λ c κs. piece-stands _ _ _ _ _ (opened (c .before .before .before)) (placed c))
     words-from-requires
     returns-3)

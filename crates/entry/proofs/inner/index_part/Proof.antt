@@ -23,12 +23,6 @@ ends c =
     let inside = slot-ends (s .args .file .now) (s .args .d) (s .args .addresses) (s .args .number) _ (s .pre) (opened (c .before)) in
     omega (arith, c .slot-position .ensures, s .pre .lent .high)
 
-enter-requires : tie.Need-enter-requires
-enter-requires c κs = search needs
-
-no-part-requires : tie.Need-no-part-requires
-no-part-requires c κs = search needs
-
 returns : tie.Need-returns
 unfolding indexPart
 returns c =
@@ -37,15 +31,6 @@ returns c =
 
 slot-position-requires : tie.Need-slot-position-requires
 slot-position-requires c κs = let o = opened c in (c .before .before .before .before .pre, o .number-low, o .number-high)
-
-add-words-from : tie.Need-add-words-from
-add-words-from c = omega (arith, ends c)
-
-sub-words-from : tie.Need-sub-words-from
-sub-words-from c = search needs
-
-words-from-requires : tie.Need-words-from-requires
-words-from-requires c κs = omega (arith, ends (c .before))
 
 returns-2 : tie.Need-returns-2
 unfolding indexPart
@@ -58,11 +43,11 @@ pub index-part-spec : {M : Type 1} → statement M
 index-part-spec =
     tie.close
     (tie.spec
-    enter-requires
-    no-part-requires
+    (λ c κs. search needs)
+    (λ c κs. search needs)
     returns
     slot-position-requires
-    add-words-from
-    sub-words-from
-    words-from-requires
+    (λ c. omega (arith, ends c))
+    (λ c. search needs)
+    (λ c κs. omega (arith, ends (c .before)))
     returns-2)

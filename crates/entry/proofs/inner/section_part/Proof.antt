@@ -24,30 +24,18 @@ found : (c : tie.After-section-named) → let a = c .before .before .before .bef
 found c = rw (toZ-ofZ (c .before .before .before .before .before .fits .identifier)) at (c .section-named .ensures)
 
 -- and it lies within the entry
-placed : (c : tie.After-section-at) → let x = c .before .before .before .before .before .before .enter .result in Placed (x .nsec) (x .nword) (c .section-at .result)
+placed : (c : tie.After-section-at) → let n = c .before .before .before in let x = n .before .before .before .enter .result in Placed (x .nsec) (x .nword) (c .section-at .result)
 placed c =
     let n = c .before .before .before in
     let x = n .before .before .before .enter .result in
     rw (c .section-at .ensures)
     (section-placed (n .before .before .before .before .before .args .file .now) (x .start) (x .nsec) (x .nword) (n .section-named .result) (x .nsec) (c .before .if2 .left) (opened (n .before) .sections-within))
 
-enter-requires : tie.Need-enter-requires
-enter-requires c κs = search needs
-
-no-part-requires : tie.Need-no-part-requires
-no-part-requires c κs = search needs
-
 returns : tie.Need-returns
 unfolding sectionPart
 returns c =
     let x = c .before .before .before .enter in
     c .no-part .ensures ∙ rw (← (x .ensures), ne-eqb (x .result .refusal) 0 (c .before .if1 .taken))
-
-section-named-requires : tie.Need-section-named-requires
-section-named-requires c κs = opened c .described
-
-no-part-requires-2 : tie.Need-no-part-requires-2
-no-part-requires-2 c κs = search needs
 
 returns-2 : tie.Need-returns-2
 unfolding sectionPart
@@ -56,16 +44,6 @@ returns-2 c =
     let x = n .before .before .before .enter in
     c .no-part2 .ensures
     ∙ rw (← (x .ensures), eq-eqb (x .result .refusal) 0 (n .before .if1 .left), ← (found n), le-ltb (n .section-named .result) (x .result .nsec) (c .before .if2 .taken))
-
-section-at-requires : tie.Need-section-at-requires
-section-at-requires c κs = (opened (c .before .before .before) .described, c .if2 .left)
-
-entry-position-requires : tie.Need-entry-position-requires
-entry-position-requires c κs = piece-stands _ _ _ _ _ (opened (c .before .before .before .before)) (placed c)
-
-words-from-requires : tie.Need-words-from-requires
-words-from-requires c κs =
-    rw (c .entry-position .ensures) (piece-fits _ _ _ _ _ (opened (c .before .before .before .before .before)) (placed (c .before)))
 
 returns-3 : tie.Need-returns-3
 unfolding sectionPart
@@ -80,13 +58,13 @@ pub section-part-spec : {M : Type 1} → statement M
 section-part-spec =
     tie.close
     (tie.spec
-    enter-requires
-    no-part-requires
+    (λ c κs. search needs)
+    (λ c κs. search needs)
     returns
-    section-named-requires
-    no-part-requires-2
+    (λ c κs. opened c .described)
+    (λ c κs. search needs)
     returns-2
-    section-at-requires
-    entry-position-requires
-    words-from-requires
+    (λ c κs. (opened (c .before .before .before) .described, c .if2 .left))
+    (λ c κs. piece-stands _ _ _ _ _ (opened (c .before .before .before .before)) (placed c))
+    (λ c κs. rw (c .entry-position .ensures) (piece-fits _ _ _ _ _ (opened (c .before .before .before .before .before)) (placed (c .before))))
     returns-3)

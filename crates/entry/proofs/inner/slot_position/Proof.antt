@@ -26,9 +26,6 @@ sum : (c : tie.After-struct-known) → let s = c .before .before .before .before
 unfolding slotPositionOf
 sum c = rw (c .before .position .ensures, c .before .before .aex .ensures, found (c .before .before .before))
 
-new-requires : tie.Need-new-requires
-new-requires c κs = search needs
-
 slot-of-requires : tie.Need-slot-of-requires
 slot-of-requires c κs =
     let s = c .before in
@@ -59,10 +56,7 @@ add-result c =
     let s = c .before .before .before .before .before in
     omega (arith, sum c, slot-inside (s .args .bytes) (s .args .d) (s .args .addresses) (s .pre .0) (s .args .number) (s .pre .1) (s .pre .2), s .pre .0 .room, s .pre .0 .lent .high)
 
-returns : tie.Need-returns
-returns c = sum c
-
 pub slot-position-spec : {M : Type 1} → statement M
 slot-position-spec =
     tie.close
-    (tie.spec new-requires slot-of-requires aex-requires position-requires add-result returns)
+    (tie.spec (λ c κs. search needs) slot-of-requires aex-requires position-requires add-result (λ c. sum c))

@@ -11,22 +11,7 @@ inside c =
     let a = c .before .before .args in
     rw (c .data-array-place .ensures) (data-words-inside (a .file .now) (a .number))
 
-data-array-place-requires : tie.Need-data-array-place-requires
-data-array-place-requires c κs = search needs
-
-sub-result : tie.Need-sub-result
-sub-result c = inside c .ordered
-
-part-result-start : tie.Need-part-result-start
-part-result-start c = inside c .ordered
-
-part-result-end : tie.Need-part-result-end
-part-result-end c = inside c .ends
-
-returns : tie.Need-returns
-returns c = handed (c .before .data-array-place .ensures) refl refl
-
 pub data-array-spec : {M : Type 1} → statement M
 data-array-spec =
     tie.close
-    (tie.spec data-array-place-requires sub-result part-result-start part-result-end returns)
+    (tie.spec (λ c κs. search needs) (λ c. inside c .ordered) (λ c. inside c .ordered) (λ c. inside c .ends) (λ c. handed (c .before .data-array-place .ensures) refl refl))

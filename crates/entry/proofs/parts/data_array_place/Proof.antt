@@ -1,52 +1,39 @@
 -- `entry::parts::data_array_place` meets its contract, by the validation's case. Assumes nothing.
+use mathlib.Core.List.{List}
+use Rattle.geometry.specs.declared.units.RecordNumber.{RecordNumber}
+use Rattle.descriptor.specs.declared.numbers.DescriptorNumbers.{DescriptorNumbers}
 use Rattle.descriptor.proofs.Answered.{told}
+use Rattle.entry.specs.declared.answers.PartPlace.{PartPlace}
 use Rattle.entry.specs.Answers.{dataPart}
 use Rattle.entry.proofs.Handing.{whole-refused, whole-numbers}
 use borrow.Author.Needs.{needs}
 use Rattle.entry.proofs.parts.data_array_place.Statement.{statement}
 use Rattle.entry.proofs.parts.data_array_place.Tie as tie
 
-validate-requires : tie.Need-validate-requires
-validate-requires c κs = search needs
-
-enum-known-case : tie.Need-enum-known-case
-enum-known-case c = search needs
-
-enum-told : tie.Need-enum-told
-enum-told c = search needs
-
-refusal-of-requires : tie.Need-refusal-of-requires
-refusal-of-requires c κs = search needs
-
-no-part-requires : tie.Need-no-part-requires
-no-part-requires c κs = search needs
+-- the part, by a file's addresses and numbers
+abbrev by-numbers : tie.Start → List RecordNumber → DescriptorNumbers → PartPlace
+by-numbers s addresses d = dataPart (s .args .file .now) d addresses (s .args .number)
 
 returns : tie.Need-returns
 returns c =
-    let a = c .before .before .before .before .before .before .args in
-    let v = c .before .before .before .before .validate in
-    whole-refused (a .file .now) (λ addresses d. dataPart (a .file .now) d addresses (a .number)) (v .ensures) (c .before .before .enum-told .given .1) (c .before .refusal-of .ensures) (c .no-part .ensures)
-
-data-part-requires : tie.Need-data-part-requires
-data-part-requires c κs =
-    let v = c .before .before .before .before .validate in
-    told (c .before .before .before .before .before .before .args .file .now) (v .result) (c .before .before .case .given .0 .0) (v .ensures) (c .before .before .case .given .1) .admitted
+    let v = c .before .before .before .before in
+    whole-refused _ (by-numbers (v .before .before)) (v .validate .ensures) (c .before .before .enum-told .given .1) (c .before .refusal-of .ensures) (c .no-part .ensures)
 
 returns-2 : tie.Need-returns-2
 returns-2 c =
-    let a = c .before .before .before .before .before .before .before .args in
-    let v = c .before .before .before .before .before .validate in
-    whole-numbers (a .file .now) (λ addresses d. dataPart (a .file .now) d addresses (a .number)) (v .ensures) (c .before .before .before .case .given .1) (c .data-part .ensures)
+    let k = c .before .before .before in
+    let s = k .before .before .before .before in
+    whole-numbers _ (by-numbers s) (k .before .before .validate .ensures) (k .case .given .1) (c .data-part .ensures)
 
 pub data-array-place-spec : {M : Type 1} → statement M
 data-array-place-spec =
     tie.close
     (tie.spec
-    validate-requires
-    enum-known-case
-    enum-told
-    refusal-of-requires
-    no-part-requires
+    (λ c κs. search needs)
+    (λ c. search needs)
+    (λ c. search needs)
+    (λ c κs. search needs)
+    (λ c κs. search needs)
     returns
-    data-part-requires
+    (λ c κs. told _ _ _ (c .before .before .before .before .validate .ensures) (c .before .before .case .given .1) .admitted)
     returns-2)

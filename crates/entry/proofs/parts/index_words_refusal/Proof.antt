@@ -5,11 +5,5 @@ use borrow.Author.Needs.{needs}
 use Rattle.entry.proofs.parts.index_words_refusal.Statement.{statement}
 use Rattle.entry.proofs.parts.index_words_refusal.Tie as tie
 
-index-words-place-requires : tie.Need-index-words-place-requires
-index-words-place-requires c κs = search needs
-
-returns : tie.Need-returns
-returns c = ap (λ (p : PartPlace). p .refusal) (c .index-words-place .ensures)
-
 pub index-words-refusal-spec : {M : Type 1} → statement M
-index-words-refusal-spec = tie.close (tie.spec index-words-place-requires returns)
+index-words-refusal-spec = tie.close (tie.spec (λ c κs. search needs) (λ c. ap (λ (p : PartPlace). p .refusal) (c .index-words-place .ensures)))

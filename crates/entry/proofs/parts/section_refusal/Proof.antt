@@ -6,11 +6,8 @@ use borrow.Author.Needs.{needs}
 use Rattle.entry.proofs.parts.section_refusal.Statement.{statement}
 use Rattle.entry.proofs.parts.section_refusal.Tie as tie
 
-section-place-requires : tie.Need-section-place-requires
-section-place-requires c κs = search needs
-
 returns : tie.Need-returns
 returns c = ap (λ (p : PartPlace). p .refusal) (rw (toZ-ofZ (c .before .before .fits .identifier)) at (c .section-place .ensures))
 
 pub section-refusal-spec : {M : Type 1} → statement M
-section-refusal-spec = tie.close (tie.spec section-place-requires returns)
+section-refusal-spec = tie.close (tie.spec (λ c κs. search needs) returns)

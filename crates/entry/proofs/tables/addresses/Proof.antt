@@ -1,49 +1,25 @@
 -- `entry::tables::addresses` meets its contract. The loop's invariant: the places filled hold the addresses of their sections, the others zero. Assumes nothing.
-use mathlib.Core.Path.{_≡_, refl}
-use Prim.Native.Nat.{_-_, _≤_}
+use Prim.Native.Nat.{_-_}
 use native.Mathlib.Omega.{arith}
 use borrow.Author.Needs.{needs}
-use Rattle.words.specs.Table.{places}
-use Rattle.words.proofs.Table.{places-next}
+use Rattle.words.proofs.Table.{Filling, filling-none, filling-next, filling-all}
 use Rattle.entry.specs.EntryDescriptor.{sectionOf}
-use Rattle.entry.specs.Tables.{addressesOf}
+use Rattle.entry.specs.Tables.{sectionAddresses}
 use Rattle.entry.proofs.tables.addresses.Statement.{statement}
 use Rattle.entry.proofs.tables.addresses.Tie as tie
 
 abbrev Inv-loop : tie.InvT-loop
-Inv-loop file start nsec table₀ filled₀ table filled = (filled ≤ nsec) × (table ≡ places 64 filled (λ i. sectionOf file start nsec i .address) (record { 0 = 0 }))
+Inv-loop file start nsec table₀ filled₀ table filled = Filling 64 nsec (λ i. sectionOf file start nsec i .address) (record { 0 = 0 }) table filled
 
 abbrev μ-loop : tie.MeasureT-loop
 μ-loop file start nsec table₀ filled₀ table filled = nsec - filled
 
-loop-holds : tie.Need-loop-holds Inv-loop μ-loop
-loop-holds c = (omega arith, refl)
-
-section-at-requires : tie.Need-section-at-requires Inv-loop μ-loop
-section-at-requires c κs = search needs
-
-mul-table : tie.Need-mul-table Inv-loop μ-loop
-mul-table c = omega arith
-
-array-set-from-table : tie.Need-array-set-from-table Inv-loop μ-loop
-array-set-from-table c = omega arith
-
-add-filled : tie.Need-add-filled Inv-loop μ-loop
-add-filled c = omega arith
-
-loop-less : tie.Need-loop-less Inv-loop μ-loop
-loop-less c = omega arith
-
 loop-again : tie.Need-loop-again Inv-loop μ-loop
-loop-again c =
-    let l = c .before .before .before .loop in
-    (omega arith, rw (l .inv .1, c .before .section-at .ensures) (places-next 64 (l .filled) _ _ (omega arith)))
+loop-again c = filling-next (c .before .before .before .loop .inv) (omega arith) (omega arith) (rw (c .before .section-at .ensures))
 
 returns : tie.Need-returns Inv-loop μ-loop
-unfolding addressesOf
-returns c =
-    let e : c .before .loop .filled ≡ c .before .before .before .args .nsec = omega arith in
-    rw e at (c .before .loop .inv .1)
+unfolding sectionAddresses
+returns c = filling-all (c .before .loop .inv) (omega arith)
 
 pub addresses-spec : {M : Type 1} → statement M
 addresses-spec =
@@ -51,11 +27,11 @@ addresses-spec =
     (tie.spec
     Inv-loop
     μ-loop
-    loop-holds
-    section-at-requires
-    mul-table
-    array-set-from-table
-    add-filled
-    loop-less
+    (λ c. filling-none)
+    (λ c κs. search needs)
+    (λ c. omega arith)
+    (λ c. omega arith)
+    (λ c. omega arith)
+    (λ c. omega arith)
     loop-again
     returns)

@@ -20,12 +20,6 @@ Inv-loop file start nsec identifier passed₀ passed =
 abbrev μ-loop : tie.MeasureT-loop
 μ-loop file start nsec identifier passed₀ passed = nsec - passed
 
-loop-holds : tie.Need-loop-holds Inv-loop μ-loop
-loop-holds c = (omega arith, rw sub-zero)
-
-identifier-at-requires : tie.Need-identifier-at-requires Inv-loop μ-loop
-identifier-at-requires c κs = search needs
-
 returns : tie.Need-returns Inv-loop μ-loop
 returns c =
     let s = c .before .before .before in
@@ -33,12 +27,6 @@ returns c =
     let read = toZ-ofZ (sfits-of (c .before .identifier-at .ok)) in
     let e = sym (c .before .identifier-at .ensures) ∙ sym read ∙ ap (signedOf integer4) (c .if1 .taken) ∙ known in
     sym (named-here _ _ _ _ _ (c .before .before .loop-test .taken) e) ∙ rw known at (s .loop .inv .1)
-
-add-passed : tie.Need-add-passed Inv-loop μ-loop
-add-passed c = omega arith
-
-loop-less : tie.Need-loop-less Inv-loop μ-loop
-loop-less c = omega arith
 
 loop-again : tie.Need-loop-again Inv-loop μ-loop
 loop-again c =
@@ -63,10 +51,10 @@ section-named-spec =
     (tie.spec
     Inv-loop
     μ-loop
-    loop-holds
-    identifier-at-requires
+    (λ c. (omega arith, rw sub-zero))
+    (λ c κs. search needs)
     returns
-    add-passed
-    loop-less
+    (λ c. omega arith)
+    (λ c. omega arith)
     loop-again
     returns-2)

@@ -4,19 +4,10 @@ use Rattle.entry.specs.Tables.{sectionsOf}
 use Rattle.entry.proofs.tables.section_tables.Statement.{statement}
 use Rattle.entry.proofs.tables.section_tables.Tie as tie
 
-identifiers-requires : tie.Need-identifiers-requires
-identifiers-requires c κs = search needs
-
-lengths-requires : tie.Need-lengths-requires
-lengths-requires c κs = search needs
-
-addresses-requires : tie.Need-addresses-requires
-addresses-requires c κs = search needs
-
 returns : tie.Need-returns
 unfolding sectionsOf
 returns c = cc
 
 pub section-tables-spec : {M : Type 1} → statement M
 section-tables-spec =
-    tie.close (tie.spec identifiers-requires lengths-requires addresses-requires returns)
+    tie.close (tie.spec (λ c κs. search needs) (λ c κs. search needs) (λ c κs. search needs) returns)

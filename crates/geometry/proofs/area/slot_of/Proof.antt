@@ -48,21 +48,6 @@ loop-holds c =
     let some = in-use (c .args .growth) (c .args .nex) (c .args .entry .0) (c .pre .3) (c .pre .4) in
     (omega arith, some, refl, sym (total-none _), omega arith)
 
-add-loop : tie.Need-add-loop Inv-loop μ-loop
-add-loop c = omega (arith, room c)
-
-add-before : tie.Need-add-before Inv-loop μ-loop
-add-before c = omega (arith, room (c .before))
-
-grown-requires : tie.Need-grown-requires Inv-loop μ-loop
-grown-requires c κs = (c .before .before .pre .1 .gex-high, room (c .before) .0)
-
-add-extension : tie.Need-add-extension Inv-loop μ-loop
-add-extension c = omega arith
-
-loop-less : tie.Need-loop-less Inv-loop μ-loop
-loop-less c = omega (arith, further (c .before))
-
 loop-again : tie.Need-loop-again Inv-loop μ-loop
 loop-again c =
     let g = c .before .before .before .args .growth in
@@ -74,12 +59,6 @@ loop-again c =
       rw k (reach (c .before .before)),
       c .before .loop-test .taken,
     )
-
-sub-place : tie.Need-sub-place Inv-loop μ-loop
-sub-place c = omega arith
-
-sub-t13 : tie.Need-sub-t13 Inv-loop μ-loop
-sub-t13 c = omega arith
 
 mul-t14 : tie.Need-mul-t14 Inv-loop μ-loop
 mul-t14 c =
@@ -106,13 +85,13 @@ slot-of-spec =
     Inv-loop
     μ-loop
     loop-holds
-    add-loop
-    add-before
-    grown-requires
-    add-extension
-    loop-less
+    (λ c. omega (arith, room c))
+    (λ c. omega (arith, room (c .before)))
+    (λ c κs. (c .before .before .pre .1 .gex-high, room (c .before) .0))
+    (λ c. omega arith)
+    (λ c. omega (arith, further (c .before)))
     loop-again
-    sub-place
-    sub-t13
+    (λ c. omega arith)
+    (λ c. omega arith)
     mul-t14
     returns)

@@ -28,15 +28,6 @@ returns c =
     sym (over-more (a .growth) (l .passed + 1) (a .count) (omega arith)
     (over-next (a .growth) (l .passed) (l .inv .2) ∙ ap (ltb 16384) (sym (l .inv .1)) ∙ lt-ltb 16384 (l .next) (c .if1 .taken)))
 
-grown-requires : tie.Need-grown-requires Inv-loop μ-loop
-grown-requires c κs = omega arith
-
-add-passed : tie.Need-add-passed Inv-loop μ-loop
-add-passed c = omega arith
-
-loop-less : tie.Need-loop-less Inv-loop μ-loop
-loop-less c = omega arith
-
 loop-again : tie.Need-loop-again Inv-loop μ-loop
 loop-again c =
     let g = c .before .before .before .before .args .growth in
@@ -59,8 +50,8 @@ over-spec =
     μ-loop
     loop-holds
     returns
-    grown-requires
-    add-passed
-    loop-less
+    (λ c κs. omega arith)
+    (λ c. omega arith)
+    (λ c. omega arith)
     loop-again
     returns-2)

@@ -34,12 +34,6 @@ grown-requires c κs =
     let s = c .before .before in
     (s .pre .1 .gex-high, rw (c .before .loop .inv .1) (capacity-limit _ _ (s .args .count) (omega arith) (omega arith) (s .pre .1 .within)))
 
-add-passed : tie.Need-add-passed Inv-loop μ-loop
-add-passed c = omega arith
-
-loop-less : tie.Need-loop-less Inv-loop μ-loop
-loop-less c = omega arith
-
 loop-again : tie.Need-loop-again Inv-loop μ-loop
 loop-again c =
     let g = c .before .before .before .args .growth in
@@ -63,7 +57,7 @@ total-spec =
     loop-holds
     add-sum
     grown-requires
-    add-passed
-    loop-less
+    (λ c. omega arith)
+    (λ c. omega arith)
     loop-again
     returns)

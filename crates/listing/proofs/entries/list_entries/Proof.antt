@@ -12,9 +12,6 @@ use borrow.Author.Needs.{needs}
 use Rattle.listing.proofs.entries.list_entries.Statement.{statement}
 use Rattle.listing.proofs.entries.list_entries.Tie as tie
 
-rows-length-requires : tie.Need-rows-length-requires
-rows-length-requires c κs = search needs
-
 add-count : tie.Need-add-count
 add-count c =
     let s = c .before .before .before in
@@ -29,39 +26,28 @@ returns c =
     let n = length-entries (a .file .now) (a .d) (a .addresses) in
     left-alone (entriesListing (a .file .now) (a .d) (a .addresses)) (now (a .out)) (omega (arith, n, c .before .rows-length .ensures))
 
-slice-aggregate-put : tie.Need-slice-aggregate-put
-slice-aggregate-put c = search needs
-
-put-requires : tie.Need-put-requires
-put-requires c κs = search needs
-
-put-rows-requires : tie.Need-put-rows-requires
-put-rows-requires c κs = search needs
-
-same-length : tie.Need-same-length
-same-length c = search needs
-
 returns-2 : tie.Need-returns-2
 unfolding header
 returns-2 c =
-    let first = c .before .before .before .before .before .before in
+    let w = c .before .before in
+    let first = w .before .before .before .before in
     let else = first .before .before .before in
     let a = else .before .before .before .before .args in
     let n = length-entries (a .file .now) (a .d) (a .addresses) in
     let rows = else .before .rows-length .ensures in
     handed-over (entriesListing (a .file .now) (a .d) (a .addresses)) (now (a .out)) (omega (arith, n, rows, else .if1 .left))
-    (38 + else .before .rows-length .result) (c .before .before .put-rows .last .1 .1 .1 .0) (omega (arith, n, rows))
-    ((rw (first .put .ensures) at (c .before .before .put-rows .ensures)) ∙ entries-laid (a .file .now) (a .d) (a .addresses) (now (a .out)))
+    (38 + else .before .rows-length .result) (w .put-rows .last .1 .1 .1 .0) (omega (arith, n, rows))
+    ((rw (first .put .ensures) at (w .put-rows .ensures)) ∙ entries-laid (a .file .now) (a .d) (a .addresses) (now (a .out)))
 
 pub list-entries-spec : {M : Type 1} → statement M
 list-entries-spec =
     tie.close
     (tie.spec
-    rows-length-requires
+    (λ c κs. search needs)
     add-count
     returns
-    slice-aggregate-put
-    put-requires
-    put-rows-requires
-    same-length
+    (λ c. search needs)
+    (λ c κs. search needs)
+    (λ c κs. search needs)
+    (λ c. search needs)
     returns-2)

@@ -20,41 +20,29 @@ Inv-loop file d addresses out₀ at entries next₀ written₀ out next written 
 abbrev μ-loop : tie.MeasureT-loop
 μ-loop file d addresses out₀ at entries next₀ written₀ out next written = entries - written
 
-entries-before-requires : tie.Need-entries-before-requires Inv-loop μ-loop
-entries-before-requires c κs = c .before .before .pre .0 .counted
-
 loop-holds : tie.Need-loop-holds Inv-loop μ-loop
 loop-holds c = let q : c .entries-before .result - 0 ≡ c .entries-before .result = omega arith in (omega arith, refl, rw q, rw q)
 
-add-t12 : tie.Need-add-t12 Inv-loop μ-loop
-add-t12 c = omega arith
-
-enter-requires : tie.Need-enter-requires Inv-loop μ-loop
-enter-requires c κs = c .before .before .before .before .before .pre .0
-
 put-row-requires : tie.Need-put-row-requires Inv-loop μ-loop
 put-row-requires c κs =
-    let s = c .before .before .before .before .before .before .before in
+    let b = c .before .before .before .before in
+    let s = b .before .before .before in
     let l = c .before .before .before .loop in
-    let all = c .before .before .before .before .entries-before in
+    let all = b .entries-before in
     let x = c .before .enter in
     let a = s .args in
     let next = length-next (a .file .now) (a .d) (a .addresses) (l .written + 1) (all .result - l .written) (x .result) (omega arith)
     (x .ensures) in
     omega (arith, next, l .inv .1, l .inv .2, rw (← (all .ensures)) at (s .pre .1))
 
-add-written : tie.Need-add-written Inv-loop μ-loop
-add-written c = omega arith
-
-loop-less : tie.Need-loop-less Inv-loop μ-loop
-loop-less c = omega arith
-
 loop-again : tie.Need-loop-again Inv-loop μ-loop
 loop-again c =
-    let s = c .before .before .before .before .before .before .before .before .before .before .args in
-    let l = c .before .before .before .before .before .before .loop in
-    let all = c .before .before .before .before .before .before .before .entries-before .result in
-    let x = c .before .before .before .before .enter in
+    let e = c .before .before .before .before in
+    let b = e .before .before .before in
+    let s = b .before .before .before .args in
+    let l = e .before .before .loop in
+    let all = b .entries-before .result in
+    let x = e .enter in
     let row = c .before .before .put-row in
     let q : all - (l .written + 1) ≡ all - l .written - 1 = omega arith in
     let next = length-next (s .file .now) (s .d) (s .addresses) (l .written + 1) (all - l .written) (x .result) (omega arith)
@@ -65,9 +53,6 @@ loop-again c =
       rw q (laid-next (s .file .now) (s .d) (s .addresses) (l .written + 1) (all - l .written) (x .result) (l .out) (l .next) (row .last .0)
           (row .result) (omega arith) (x .ensures) (row .ensures .1) (row .ensures .0) ∙ l .inv .3),
     )
-
-same-length : tie.Need-same-length Inv-loop μ-loop
-same-length c = omega arith
 
 returns : tie.Need-returns Inv-loop μ-loop
 returns c =
@@ -84,13 +69,13 @@ put-rows-spec =
     (tie.spec
     Inv-loop
     μ-loop
-    entries-before-requires
+    (λ c κs. c .before .before .pre .0 .counted)
     loop-holds
-    add-t12
-    enter-requires
+    (λ c. omega arith)
+    (λ c κs. c .before .before .before .before .before .pre .0)
     put-row-requires
-    add-written
-    loop-less
+    (λ c. omega arith)
+    (λ c. omega arith)
     loop-again
-    same-length
+    (λ c. omega arith)
     returns)

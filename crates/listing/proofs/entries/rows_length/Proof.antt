@@ -18,41 +18,25 @@ Inv-loop file d addresses entries sum₀ measured₀ sum measured =
 abbrev μ-loop : tie.MeasureT-loop
 μ-loop file d addresses entries sum₀ measured₀ sum measured = entries - measured
 
-entries-before-requires : tie.Need-entries-before-requires Inv-loop μ-loop
-entries-before-requires c κs = c .before .pre .counted
-
 loop-holds : tie.Need-loop-holds Inv-loop μ-loop
 loop-holds c =
     let q : c .entries-before .result - 0 ≡ c .entries-before .result = omega arith in
     (omega arith, omega arith, rw q (omega arith))
 
-add-t10 : tie.Need-add-t10 Inv-loop μ-loop
-add-t10 c = omega arith
-
-enter-requires : tie.Need-enter-requires Inv-loop μ-loop
-enter-requires c κs = c .before .before .before .before .pre
-
-row-length-requires : tie.Need-row-length-requires Inv-loop μ-loop
-row-length-requires c κs = search needs
-
 add-sum : tie.Need-add-sum Inv-loop μ-loop
 add-sum c =
-    let s = c .before .before .before .before .before .before in
-    let row = row-short (c .before .before .before .loop .measured + 1) (c .before .enter .result) in
+    let l = c .before .before .before in
+    let s = l .before .before .before in
+    let row = row-short (l .loop .measured + 1) (c .before .enter .result) in
     let few = entries-room (length (s .args .file .now)) (s .args .d) (s .args .addresses) (s .pre) in
     omega (arith, row, c .row-length .ensures, few, s .pre .lent .high)
 
-add-measured : tie.Need-add-measured Inv-loop μ-loop
-add-measured c = omega arith
-
-loop-less : tie.Need-loop-less Inv-loop μ-loop
-loop-less c = omega arith
-
 loop-again : tie.Need-loop-again Inv-loop μ-loop
 loop-again c =
-    let s = c .before .before .before .before .before .before .args in
+    let b = c .before .before .before .before in
+    let s = b .before .before .args in
     let l = c .before .before .before .loop in
-    let all = c .before .before .before .before .entries-before .result in
+    let all = b .entries-before .result in
     let x = c .before .enter in
     let q : all - (l .measured + 1) ≡ all - l .measured - 1 = omega arith in
     let next = length-next (s .file .now) (s .d) (s .addresses) (l .measured + 1) (all - l .measured) (x .result) (omega arith)
@@ -75,13 +59,13 @@ rows-length-spec =
     (tie.spec
     Inv-loop
     μ-loop
-    entries-before-requires
+    (λ c κs. c .before .pre .counted)
     loop-holds
-    add-t10
-    enter-requires
-    row-length-requires
+    (λ c. omega arith)
+    (λ c κs. c .before .before .before .before .pre)
+    (λ c κs. search needs)
     add-sum
-    add-measured
-    loop-less
+    (λ c. omega arith)
+    (λ c. omega arith)
     loop-again
     returns)

@@ -1,30 +1,11 @@
 -- `listing::listing::list_file` meets its contract: it validates, and lists what that shows. Assumes nothing.
 use mathlib.Core.Path.{ap, _∙_}
-use Rattle.descriptor.specs.Answers.{numberOf}
-use Rattle.descriptor.proofs.Answered.{told}
+use Rattle.descriptor.proofs.Answered.{told, refusal-told}
 use Rattle.listing.specs.Listing.{listingIn}
 use Rattle.listing.proofs.Listings.{listing-by}
 use borrow.Author.Needs.{needs}
 use Rattle.listing.proofs.listing.list_file.Statement.{statement}
 use Rattle.listing.proofs.listing.list_file.Tie as tie
-
-validate-requires : tie.Need-validate-requires
-validate-requires c κs = search needs
-
-enum-known-case : tie.Need-enum-known-case
-enum-known-case c = search needs
-
-enum-told : tie.Need-enum-told
-enum-told c = search needs
-
-refusal-of-requires : tie.Need-refusal-of-requires
-refusal-of-requires c κs = search needs
-
-list-refused-requires : tie.Need-list-refused-requires
-list-refused-requires c κs = search needs
-
-same-length : tie.Need-same-length
-same-length c = search needs
 
 returns : tie.Need-returns
 unfolding listingIn
@@ -33,7 +14,7 @@ returns c =
     let v = p .before .before .before in
     let t = p .before .enum-told .given .1 in
     let q = listing-by (v .before .before .before .args .file .now) (v .validate .result) _ (v .validate .ensures) t in
-    let line = rw (p .refusal-of .ensures ∙ ap numberOf t) at (c .before .before .list-refused .ensures) in
+    let line = rw (refusal-told (p .refusal-of .ensures) t) at (c .before .before .list-refused .ensures) in
     (rw q (line .0), rw q (line .1))
 
 list-entries-requires : tie.Need-list-entries-requires
@@ -43,29 +24,27 @@ list-entries-requires c κs =
     told (v .before .before .before .args .file .now) (v .validate .result) (case .case .given .0 .0) (v .validate .ensures)
     (case .case .given .1) .admitted
 
-same-length-2 : tie.Need-same-length-2
-same-length-2 c = search needs
-
 returns-2 : tie.Need-returns-2
 unfolding listingIn
 returns-2 c =
-    let case = c .before .before .before .before .before .before in
+    let l = c .before .before in
+    let case = l .before .before .before .before in
     let v = case .before .before in
     let q = listing-by (v .before .before .before .args .file .now) (v .validate .result) _ (v .validate .ensures) (case .case .given .1) in
-    let all = c .before .before .list-entries .ensures in
+    let all = l .list-entries .ensures in
     (rw q (all .0), rw q (all .1))
 
 pub list-file-spec : {M : Type 1} → statement M
 list-file-spec =
     tie.close
     (tie.spec
-    validate-requires
-    enum-known-case
-    enum-told
-    refusal-of-requires
-    list-refused-requires
-    same-length
+    (λ c κs. search needs)
+    (λ c. search needs)
+    (λ c. search needs)
+    (λ c κs. search needs)
+    (λ c κs. search needs)
+    (λ c. search needs)
     returns
     list-entries-requires
-    same-length-2
+    (λ c. search needs)
     returns-2)

@@ -11,20 +11,11 @@ use borrow.Author.Needs.{needs}
 use Rattle.listing.proofs.listing.list_input.Statement.{statement}
 use Rattle.listing.proofs.listing.list_input.Tie as tie
 
-slice-aggregate-put : tie.Need-slice-aggregate-put
-slice-aggregate-put c = search needs
-
-put-requires : tie.Need-put-requires
-put-requires c κs = search needs
-
 returns : tie.Need-returns
 unfolding overLimit
 returns c =
     let q = output-over (now (c .before .before .before .before .before .args .input)) (c .before .before .before .if1 .taken) in
     (rw q (sym length-over), rw q (c .put .ensures))
-
-list-file-requires : tie.Need-list-file-requires
-list-file-requires c κs = search needs
 
 returns-2 : tie.Need-returns-2
 returns-2 c =
@@ -37,4 +28,4 @@ returns-2 c =
 
 pub list-input-spec : {M : Type 1} → statement M
 list-input-spec =
-    tie.close (tie.spec slice-aggregate-put put-requires returns list-file-requires returns-2)
+    tie.close (tie.spec (λ c. search needs) (λ c κs. search needs) returns (λ c κs. search needs) returns-2)

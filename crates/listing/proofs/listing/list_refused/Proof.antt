@@ -11,9 +11,6 @@ use borrow.Author.Needs.{needs}
 use Rattle.listing.proofs.listing.list_refused.Statement.{statement}
 use Rattle.listing.proofs.listing.list_refused.Tie as tie
 
-slice-aggregate-put-refused : tie.Need-slice-aggregate-put-refused
-slice-aggregate-put-refused c = search needs
-
 put-refused-requires : tie.Need-put-refused-requires
 put-refused-requires c κs =
     let n = c .before .before .args .refusal in
@@ -25,22 +22,11 @@ returns c =
     let a = p .before .before .before .args in
     left-alone (refusedFile (a .refusal)) (now (a .out)) (omega (arith, length-refused-file (a .refusal), p .put-refused .ensures .0))
 
-slice-aggregate-put : tie.Need-slice-aggregate-put
-slice-aggregate-put c = search needs
-
-put-requires : tie.Need-put-requires
-put-requires c κs = search needs
-
-put-refused-requires-2 : tie.Need-put-refused-requires-2
-put-refused-requires-2 c κs = search needs
-
-same-length : tie.Need-same-length
-same-length c = search needs
-
 returns-2 : tie.Need-returns-2
 returns-2 c =
-    let line = c .before .before .put-refused2 in
-    let word = c .before .before .before .before .before .before in
+    let w = c .before .before in
+    let line = w .put-refused2 in
+    let word = w .before .before .before .before in
     let p = word .before .before .before .before .before in
     let a = p .before .before .before .args in
     let n = length-refused-file (a .refusal) in
@@ -51,11 +37,11 @@ pub list-refused-spec : {M : Type 1} → statement M
 list-refused-spec =
     tie.close
     (tie.spec
-    slice-aggregate-put-refused
+    (λ c. search needs)
     put-refused-requires
     returns
-    slice-aggregate-put
-    put-requires
-    put-refused-requires-2
-    same-length
+    (λ c. search needs)
+    (λ c κs. search needs)
+    (λ c κs. search needs)
+    (λ c. search needs)
     returns-2)

@@ -55,9 +55,6 @@ put-field-requires-6 c κs =
     let a = start (from-2 (from-3 (from-4 (from-5 (c .before .before .before))))) .args in
     omega (arith, length-opened (a .number .0) (a .entered))
 
-same-length : tie.Need-same-length
-same-length c = search needs
-
 returns : tie.Need-returns
 returns c =
     let p₆ = c .before .before in
@@ -88,5 +85,5 @@ put-opened-spec =
     put-field-requires-4
     put-field-requires-5
     put-field-requires-6
-    same-length
+    (λ c. search needs)
     returns)

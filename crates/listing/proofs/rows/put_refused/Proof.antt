@@ -11,26 +11,12 @@ use Rattle.listing.proofs.Lines.{length-refused}
 use Rattle.listing.proofs.rows.put_refused.Statement.{statement}
 use Rattle.listing.proofs.rows.put_refused.Tie as tie
 
-slice-aggregate-put : tie.Need-slice-aggregate-put
-slice-aggregate-put c = search needs
-
-put-requires : tie.Need-put-requires
-put-requires c κs = omega (arith, length-refused (c .before .before .before .args .refusal))
-
-add-put-field : tie.Need-add-put-field
-add-put-field c = search needs
-
-put-field-requires : tie.Need-put-field-requires
-put-field-requires c κs = omega (arith, length-refused (c .before .before .before .before .before .before .before .args .refusal))
-
-same-length : tie.Need-same-length
-same-length c = search needs
-
 returns : tie.Need-returns
 unfolding refusedOf
 returns c =
-    let field = c .before .before .put-field .ensures in
-    let word = c .before .before .before .before .before .before in
+    let f = c .before .before in
+    let field = f .put-field .ensures in
+    let word = f .before .before .before .before in
     let a = word .before .before .before .before .args in (
       omega (arith, length-refused (a .refusal)),
       (rw (word .put .ensures) at (field .1))
@@ -41,9 +27,9 @@ pub put-refused-spec : {M : Type 1} → statement M
 put-refused-spec =
     tie.close
     (tie.spec
-    slice-aggregate-put
-    put-requires
-    add-put-field
-    put-field-requires
-    same-length
+    (λ c. search needs)
+    (λ c κs. omega (arith, length-refused (c .before .before .before .args .refusal)))
+    (λ c. search needs)
+    (λ c κs. let w = c .before .before .before in omega (arith, length-refused (w .before .before .before .before .args .refusal)))
+    (λ c. search needs)
     returns)

@@ -17,13 +17,11 @@ put-opened-requires c κs =
     let a = c .before .before .before .before .args in
     omega (arith, ap length (row-opened (a .number .0) (a .entered) (c .before .if1 .taken)))
 
-same-length : tie.Need-same-length
-same-length c = search needs
-
 returns : tie.Need-returns
 returns c =
-    let a = c .before .before .before .before .before .before .before .args in
-    let q = row-opened (a .number .0) (a .entered) (c .before .before .before .before .if1 .taken) in
+    let t = c .before .before .before .before in
+    let a = t .before .before .before .args in
+    let q = row-opened (a .number .0) (a .entered) (t .if1 .taken) in
     (rw q (c .before .before .put-opened .ensures .0), rw q (c .before .before .put-opened .ensures .1))
 
 put-decimal-requires : tie.Need-put-decimal-requires
@@ -35,19 +33,18 @@ put-decimal-requires c κs =
 
 put-refused-requires : tie.Need-put-refused-requires
 put-refused-requires c κs =
-    let a = c .before .before .before .before .before .before .before .before .args in
+    let e = c .before .before .before .before .before in
+    let a = e .before .before .before .args in
     let x = a .entered in
-    let q = row-refused (a .number .0) x (ne-eqb (x .refusal) 0 (c .before .before .before .before .before .if1 .left)) in
+    let q = row-refused (a .number .0) x (ne-eqb (x .refusal) 0 (e .if1 .left)) in
     omega (arith, ap length q, length-refused-row (a .number .0) (x .refusal))
-
-same-length-2 : tie.Need-same-length-2
-same-length-2 c = search needs
 
 returns-2 : tie.Need-returns-2
 unfolding refusedRow
 returns-2 c =
-    let word = c .before .before .put-refused in
-    let p = c .before .before .before .before .before .before in
+    let w = c .before .before in
+    let word = w .put-refused in
+    let p = w .before .before .before .before in
     let digits = p .put-decimal in
     let a = p .before .before .before .before .before .args in
     let x = a .entered in
@@ -62,9 +59,9 @@ put-row-spec =
     tie.close
     (tie.spec
     put-opened-requires
-    same-length
+    (λ c. search needs)
     returns
     put-decimal-requires
     put-refused-requires
-    same-length-2
+    (λ c. search needs)
     returns-2)

@@ -5,14 +5,5 @@ use Rattle.listing.proofs.Lines.{row-short}
 use Rattle.listing.proofs.rows.row_length.Statement.{statement}
 use Rattle.listing.proofs.rows.row_length.Tie as tie
 
-slice-aggregate-put-row : tie.Need-slice-aggregate-put-row
-slice-aggregate-put-row c = search needs
-
-put-row-requires : tie.Need-put-row-requires
-put-row-requires c κs = omega (arith, row-short (c .before .args .number .0) (c .before .args .entered))
-
-returns : tie.Need-returns
-returns c = search needs
-
 pub row-length-spec : {M : Type 1} → statement M
-row-length-spec = tie.close (tie.spec slice-aggregate-put-row put-row-requires returns)
+row-length-spec = tie.close (tie.spec (λ c. search needs) (λ c κs. omega (arith, row-short (c .before .args .number .0) (c .before .args .entered))) (λ c. search needs))

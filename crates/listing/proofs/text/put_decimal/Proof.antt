@@ -14,24 +14,6 @@ shown c =
     let e = c .decimal .ensures .1 in
     e .1 ∙ decimal-digits (c .decimal .result) (c .before .before .before .args .n) (omega arith) (e .0)
 
-decimal-requires : tie.Need-decimal-requires
-decimal-requires c κs = search needs
-
-array-share-prefix-digits : tie.Need-array-share-prefix-digits
-array-share-prefix-digits c = search needs
-
-slice-aggregate-put : tie.Need-slice-aggregate-put
-slice-aggregate-put c = search needs
-
-put-requires : tie.Need-put-requires
-put-requires c κs = omega (arith, ap length (shown (c .before .before)))
-
-add-result : tie.Need-add-result
-add-result c = omega (arith, ap length (shown (c .before .before .before .before .before)))
-
-same-length : tie.Need-same-length
-same-length c = search needs
-
 returns : tie.Need-returns
 returns c =
     let e = shown (c .before .before .before .before .before) in
@@ -41,10 +23,10 @@ pub put-decimal-spec : {M : Type 1} → statement M
 put-decimal-spec =
     tie.close
     (tie.spec
-    decimal-requires
-    array-share-prefix-digits
-    slice-aggregate-put
-    put-requires
-    add-result
-    same-length
+    (λ c κs. search needs)
+    (λ c. search needs)
+    (λ c. search needs)
+    (λ c κs. omega (arith, ap length (shown (c .before .before))))
+    (λ c. omega (arith, ap length (shown (c .before .before .before .before .before))))
+    (λ c. search needs)
     returns)

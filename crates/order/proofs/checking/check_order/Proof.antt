@@ -1,32 +1,22 @@
 -- `order::checking::check_order` meets its contract. Assumes nothing.
 use mathlib.Core.Path.{sym, ap, _∙_}
 use Prim.Native.Nat.{ℕ}
-use Rattle.descriptor.specs.Answers.{numberOf}
-use Rattle.descriptor.proofs.Answered.{told}
+use Rattle.descriptor.proofs.Answered.{told, refusal-told}
 use Rattle.order.specs.Order.{checkedIn}
 use Rattle.order.proofs.Checks.{check-by}
 use borrow.Author.Needs.{needs}
 use Rattle.order.proofs.checking.check_order.Statement.{statement}
 use Rattle.order.proofs.checking.check_order.Tie as tie
 
-validate-requires : tie.Need-validate-requires
-validate-requires c κs = search needs
-
-enum-known-case : tie.Need-enum-known-case
-enum-known-case c = search needs
-
 enum-told : tie.Need-enum-told
 enum-told c = search needs
-
-refusal-of-requires : tie.Need-refusal-of-requires
-refusal-of-requires c κs = search needs
 
 returns : tie.Need-returns
 unfolding checkedIn
 returns c =
     let v = c .before .before .before .validate in
     let t = c .before .enum-told .given .1 in
-    ap (λ (n : ℕ). record { entry = record { 0 = 0 }; refusal = n }) (c .refusal-of .ensures ∙ ap numberOf t) ∙ sym (check-by _ (v .result) _ (v .ensures) t)
+    ap (λ (n : ℕ). record { entry = record { 0 = 0 }; refusal = n }) (refusal-told (c .refusal-of .ensures) t) ∙ sym (check-by _ (v .result) _ (v .ensures) t)
 
 check-entries-requires : tie.Need-check-entries-requires
 check-entries-requires c κs =
@@ -43,10 +33,10 @@ pub check-order-spec : {M : Type 1} → statement M
 check-order-spec =
     tie.close
     (tie.spec
-    validate-requires
-    enum-known-case
+    (λ c κs. search needs)
+    (λ c. search needs)
     enum-told
-    refusal-of-requires
+    (λ c κs. search needs)
     returns
     check-entries-requires
     returns-2)

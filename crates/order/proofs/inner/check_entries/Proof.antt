@@ -12,10 +12,11 @@ use Rattle.descriptor.specs.FirstRecord.{growthIn}
 use Rattle.descriptor.proofs.Tests.{holds, broken}
 use Rattle.descriptor.proofs.Fitting.{fit-reach}
 use Rattle.descriptor.proofs.AreaOrder.{growing}
-use Rattle.entry.specs.declared.opening.Entered.{Entered}
+use Rattle.entry.specs.declared.entered.Entered.{Entered}
 use Rattle.entry.proofs.Entering.{slot-in-use}
 use Rattle.entry.proofs.Handing.{Known, known}
-use Rattle.order.specs.Order.{endOf, checkedFrom, checkedAll, startsInOrder, endsInOrder, orderRefusal}
+use Rattle.entry.specs.Opening.{endOf}
+use Rattle.order.specs.Order.{checkedFrom, checkedAll, startsInOrder, endsInOrder, orderRefusal}
 use Rattle.order.proofs.Checks.{entryAt, end-none, order-opening, order-start, order-end, order-pass, scan-none, scan-pass, scan-fail, slotAfter}
 use Rattle.order.proofs.inner.check_entries.Statement.{statement}
 use Rattle.order.proofs.inner.check_entries.Tie as tie
@@ -64,19 +65,10 @@ ends : (c : tie.After-ends-in-order Inv-loop μ-loop) → let s = begin (c .befo
     c .ends-in-order .result ≡ endsInOrder (s .args .d) (s .args .addresses) (slotAfter (s .args .file .now) (s .args .d) (s .args .addresses) k) (endOf (entryAt (s .args .file .now) (s .args .d) (s .args .addresses) (k + 1)))
 ends c = rw (slot (c .before .before .before .before), c .before .before .before .before .before .before .before .enter .ensures) at (c .ends-in-order .ensures)
 
-new-requires : tie.Need-new-requires Inv-loop μ-loop
-new-requires c κs = search needs
-
-entries-before-requires : tie.Need-entries-before-requires Inv-loop μ-loop
-entries-before-requires c κs = search needs
-
 loop-holds : tie.Need-loop-holds Inv-loop μ-loop
 loop-holds c =
     let q : c .entries-before .result - 0 ≡ c .entries-before .result = omega arith in
     (omega arith, sym (end-none _ _ _), rw q)
-
-add-t15 : tie.Need-add-t15 Inv-loop μ-loop
-add-t15 c = omega arith
 
 enter-requires : tie.Need-enter-requires Inv-loop μ-loop
 enter-requires c κs = begin c .pre
@@ -125,12 +117,6 @@ returns-3 c =
     fail (c .before .before .before .before .before .before .before .before .before) 25 (order-end (s .args .file .now) (s .args .d) (s .args .addresses) (l .passed) (l .before) (l .inv .1) (opens (c .before .before .before .before .before .before))
     (holds (starts (c .before .before .before .before)) (c .before .before .before .if2 .left)) (broken (ends (c .before)) (c .if3 .taken))) refl
 
-add-passed : tie.Need-add-passed Inv-loop μ-loop
-add-passed c = omega arith
-
-loop-less : tie.Need-loop-less Inv-loop μ-loop
-loop-less c = omega arith
-
 loop-again : tie.Need-loop-again Inv-loop μ-loop
 loop-again c =
     let s = begin (c .before .before .before .before .before .before .before .before .before) in
@@ -157,10 +143,10 @@ check-entries-spec =
     (tie.spec
     Inv-loop
     μ-loop
-    new-requires
-    entries-before-requires
+    (λ c κs. search needs)
+    (λ c κs. search needs)
     loop-holds
-    add-t15
+    (λ c. omega arith)
     enter-requires
     returns
     slot-of-requires
@@ -169,7 +155,7 @@ check-entries-spec =
     add-end
     ends-in-order-requires
     returns-3
-    add-passed
-    loop-less
+    (λ c. omega arith)
+    (λ c. omega arith)
     loop-again
     returns-4)

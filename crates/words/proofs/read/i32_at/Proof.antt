@@ -5,14 +5,5 @@ use borrow.Author.Needs.{needs}
 use Rattle.words.proofs.read.i32_at.Statement.{statement}
 use Rattle.words.proofs.read.i32_at.Tie as tie
 
-u32-at-requires : tie.Need-u32-at-requires
-u32-at-requires c κs = search needs
-
-signed32-requires : tie.Need-signed32-requires
-signed32-requires c κs = search needs
-
-returns : tie.Need-returns
-returns c = toZ-ofZ (search needs) ∙ rw (c .before .u32-at .ensures) at (c .signed32 .ensures)
-
 pub i32-at-spec : {M : Type 1} → statement M
-i32-at-spec = tie.close (tie.spec u32-at-requires signed32-requires returns)
+i32-at-spec = tie.close (tie.spec (λ c κs. search needs) (λ c κs. search needs) (λ c. toZ-ofZ (search needs) ∙ rw (c .before .u32-at .ensures) at (c .signed32 .ensures)))

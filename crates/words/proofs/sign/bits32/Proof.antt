@@ -4,24 +4,6 @@ use Rattle.words.proofs.Signed.{cast-fits, cast-bits, turn-fits, turn-c
 use Rattle.words.proofs.sign.bits32.Statement.{statement}
 use Rattle.words.proofs.sign.bits32.Tie as tie
 
-cast-result : tie.Need-cast-result
-cast-result c = cast-fits w32 (c .before .args .value) (c .before .fits .value) (c .if1 .taken)
-
-sub-result : tie.Need-sub-result
-sub-result c = turn-fits w32 (c .before .args .value) (c .before .fits .value) (c .if1 .left)
-
-cast-result-2 : tie.Need-cast-result-2
-cast-result-2 c = turn-cast-fits w32 (c .before .args .value) (c .before .fits .value) (c .if1 .left)
-
-sub-result-2 : tie.Need-sub-result-2
-sub-result-2 c = turn-le w32 (c .before .args .value) (c .before .fits .value) (c .if1 .left)
-
-returns : tie.Need-returns
-returns c = cast-bits w32 (c .before .args .value) (c .before .fits .value) (c .if1 .taken)
-
-returns-2 : tie.Need-returns-2
-returns-2 c = turn-bits w32 (c .before .args .value) (c .before .fits .value) (c .if1 .left)
-
 pub bits32-spec : {M : Type 1} → statement M
 bits32-spec =
-    tie.close (tie.spec cast-result sub-result cast-result-2 sub-result-2 returns returns-2)
+    tie.close (tie.spec (λ c. cast-fits w32 (c .before .args .value) (c .before .fits .value) (c .if1 .taken)) (λ c. turn-fits w32 (c .before .args .value) (c .before .fits .value) (c .if1 .left)) (λ c. turn-cast-fits w32 (c .before .args .value) (c .before .fits .value) (c .if1 .left)) (λ c. turn-le w32 (c .before .args .value) (c .before .fits .value) (c .if1 .left)) (λ c. cast-bits w32 (c .before .args .value) (c .before .fits .value) (c .if1 .taken)) (λ c. turn-bits w32 (c .before .args .value) (c .before .fits .value) (c .if1 .left)))

@@ -5,24 +5,6 @@ use borrow.Author.Needs.{needs}
 use Rattle.words.proofs.sign.signed64.Statement.{statement}
 use Rattle.words.proofs.sign.signed64.Tie as tie
 
-cast-result : tie.Need-cast-result
-cast-result c = search needs
-
-sub-result : tie.Need-sub-result
-sub-result c = search needs
-
-cast-result-2 : tie.Need-cast-result-2
-cast-result-2 c = search needs
-
-sub-result-2 : tie.Need-sub-result-2
-sub-result-2 c = fall-fits w64 (c .before .args .bits) (c .before .fits .bits .fits) (c .if1 .left)
-
-returns : tie.Need-returns
-returns c = search needs
-
-returns-2 : tie.Need-returns-2
-returns-2 c = fall w64 (c .before .args .bits) (c .before .fits .bits .fits) (c .if1 .left)
-
 pub signed64-spec : {M : Type 1} → statement M
 signed64-spec =
-    tie.close (tie.spec cast-result sub-result cast-result-2 sub-result-2 returns returns-2)
+    tie.close (tie.spec (λ c. search needs) (λ c. search needs) (λ c. search needs) (λ c. fall-fits w64 (c .before .args .bits) (c .before .fits .bits .fits) (c .if1 .left)) (λ c. search needs) (λ c. fall w64 (c .before .args .bits) (c .before .fits .bits .fits) (c .if1 .left)))

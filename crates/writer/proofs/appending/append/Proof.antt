@@ -1,8 +1,7 @@
 -- `writer::appending::append` meets its contract: it validates, and appends from what that shows. Assumes nothing.
 use mathlib.Core.Path.{sym, ap, _∙_}
 use Prim.Native.Nat.{ℕ}
-use Rattle.descriptor.specs.Answers.{numberOf}
-use Rattle.descriptor.proofs.Answered.{told}
+use Rattle.descriptor.proofs.Answered.{told, refusal-told}
 use Rattle.writer.specs.declared.inner.AppendedFrom.{AppendedFrom}
 use Rattle.writer.proofs.Answering.{append-by, file-by}
 use Rattle.writer.specs.Answers.{appendIn, fileIn}
@@ -11,20 +10,8 @@ use borrow.Author.Needs.{needs}
 use Rattle.writer.proofs.appending.append.Statement.{statement}
 use Rattle.writer.proofs.appending.append.Tie as tie
 
-validate-requires : tie.Need-validate-requires
-validate-requires c κs = search needs
-
-enum-known-case : tie.Need-enum-known-case
-enum-known-case c = search needs
-
 enum-told : tie.Need-enum-told
 enum-told c = search needs
-
-refusal-of-requires : tie.Need-refusal-of-requires
-refusal-of-requires c κs = search needs
-
-same-length : tie.Need-same-length
-same-length c = search needs
 
 returns : tie.Need-returns
 unfolding appendIn fileIn
@@ -32,16 +19,13 @@ returns c =
     let v = c .before .before .before .validate in
     let t = c .before .enum-told .given .1 in
     let file = c .before .before .before .before .before .before .before .before .before .args .file .now in
-    let n = c .refusal-of .ensures ∙ ap numberOf t in
+    let n = refusal-told (c .refusal-of .ensures) t in
     (ap (λ (k : ℕ). record { refusal = k; number = record { 0 = 0 } }) n ∙ sym (append-by file (v .result) _ (v .ensures) t _), sym (file-by file (v .result) _ (v .ensures) t _))
 
 append-from-requires : tie.Need-append-from-requires
 append-from-requires c κs =
     let v = c .before .before .before .before .before .validate in
     told (c .before .before .before .before .before .before .before .before .before .before .before .args .file .now) (v .result) (c .before .before .before .case .given .0 .0) (v .ensures) (c .before .before .before .case .given .1) .admitted
-
-same-length-2 : tie.Need-same-length-2
-same-length-2 c = search needs
 
 returns-2 : tie.Need-returns-2
 unfolding appendIn fileIn
@@ -56,12 +40,12 @@ pub append-spec : {M : Type 1} → statement M
 append-spec =
     tie.close
     (tie.spec
-    validate-requires
-    enum-known-case
+    (λ c κs. search needs)
+    (λ c. search needs)
     enum-told
-    refusal-of-requires
-    same-length
+    (λ c κs. search needs)
+    (λ c. search needs)
     returns
     append-from-requires
-    same-length-2
+    (λ c. search needs)
     returns-2)

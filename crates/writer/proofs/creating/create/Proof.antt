@@ -11,21 +11,12 @@ use Rattle.writer.proofs.creating.create.Tie as tie
 none : (c : tie.Else1) → let s = c .before .before .before in creationRefusal (length (s .args .file .now)) (s .args .settings) ≡ 0
 none c = sym (c .before .creation-refusal .ensures) ∙ c .if1 .left
 
-creation-refusal-requires : tie.Need-creation-refusal-requires
-creation-refusal-requires c κs = search needs
-
 returns : tie.Need-returns
 unfolding createdFile
 returns c = let r = c .before .creation-refusal in (r .ensures, rw (← (r .ensures), ne-eqb (r .result) 0 (c .if1 .taken)))
 
-new-requires : tie.Need-new-requires
-new-requires c κs = search needs
-
 put-first-requires : tie.Need-put-first-requires
 put-first-requires c κs = rw (c .new .ensures) (created-fits _ _ (none (c .before .before)))
-
-same-length : tie.Need-same-length
-same-length c = search needs
 
 returns-2 : tie.Need-returns-2
 unfolding createdFile
@@ -38,9 +29,9 @@ pub create-spec : {M : Type 1} → statement M
 create-spec =
     tie.close
     (tie.spec
-    creation-refusal-requires
+    (λ c κs. search needs)
     returns
-    new-requires
+    (λ c κs. search needs)
     put-first-requires
-    same-length
+    (λ c. search needs)
     returns-2)

@@ -10,16 +10,10 @@ returns : tie.Need-returns
 unfolding creationRefusal
 returns c = rw (lt-leb 64 (c .before .args .bytes) (c .if1 .taken))
 
-new-requires : tie.Need-new-requires
-new-requires c κs = search needs
-
-setting-refusal-requires : tie.Need-setting-refusal-requires
-setting-refusal-requires c κs = search needs
-
 returns-2 : tie.Need-returns-2
 unfolding creationRefusal settingRefusal
 returns-2 c = rw (le-leb 64 (c .before .before .before .args .bytes) (c .before .before .if1 .left)) (rw (c .before .new .ensures) at (c .setting-refusal .ensures))
 
 pub creation-refusal-spec : {M : Type 1} → statement M
 creation-refusal-spec =
-    tie.close (tie.spec returns new-requires setting-refusal-requires returns-2)
+    tie.close (tie.spec returns (λ c κs. search needs) (λ c κs. search needs) returns-2)

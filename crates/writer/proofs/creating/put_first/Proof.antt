@@ -4,18 +4,6 @@ use borrow.Author.Needs.{needs}
 use Rattle.writer.proofs.creating.put_first.Statement.{statement}
 use Rattle.writer.proofs.creating.put_first.Tie as tie
 
-put-settings-requires : tie.Need-put-settings-requires
-put-settings-requires c κs = search needs
-
-put-counts-requires : tie.Need-put-counts-requires
-put-counts-requires c κs = search needs
-
-put-growth-requires : tie.Need-put-growth-requires
-put-growth-requires c κs = search needs
-
-same-length : tie.Need-same-length
-same-length c = search needs
-
 returns : tie.Need-returns
 unfolding firstWritten
 returns c = cc
@@ -23,4 +11,4 @@ returns c = cc
 pub put-first-spec : {M : Type 1} → statement M
 put-first-spec =
     tie.close
-    (tie.spec put-settings-requires put-counts-requires put-growth-requires same-length returns)
+    (tie.spec (λ c κs. search needs) (λ c κs. search needs) (λ c κs. search needs) (λ c. search needs) returns)

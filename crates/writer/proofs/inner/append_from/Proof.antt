@@ -19,12 +19,6 @@ refused : (c : tie.After-append-refusal) → let s = c .before .before .before .
     c .append-refusal .result ≡ appendRefusal (length (s .args .file .now)) (s .args .d) (handed s)
 refused c = rw (toZ-ofZ (c .before .before .before .before .before .before .fits .version)) at (c .append-refusal .ensures)
 
-is-full-requires : tie.Need-is-full-requires
-is-full-requires c κs = search needs
-
-append-refusal-requires : tie.Need-append-refusal-requires
-append-refusal-requires c κs = search needs
-
 returns : tie.Need-returns
 unfolding appendedFrom fileFrom
 returns c =
@@ -43,9 +37,6 @@ store-requires c κs =
       extends = c .before .before .before .is-full .ensures;
     }
 
-same-length : tie.Need-same-length
-same-length c = search needs
-
 returns-2 : tie.Need-returns-2
 unfolding appendedFrom fileFrom
 returns-2 c =
@@ -56,4 +47,4 @@ returns-2 c =
     (rw yes (stored .0), rw yes (stored .1))
 
 pub append-from-spec : {M : Type 1} → statement M
-append-from-spec = tie.close (tie.spec is-full-requires append-refusal-requires returns store-requires same-length returns-2)
+append-from-spec = tie.close (tie.spec (λ c κs. search needs) (λ c κs. search needs) returns store-requires (λ c. search needs) returns-2)

@@ -22,17 +22,11 @@ first-passed c = sym (c .before .handed-refusal .ensures) ∙ c .if1 .left
 second-passed : (c : tie.Else2) → extensionRefusal (c .before .before .before .before .before .before .before .args .d) ≡ 0
 second-passed c = sym (c .before .extension-refusal .ensures) ∙ c .if2 .left
 
-handed-refusal-requires : tie.Need-handed-refusal-requires
-handed-refusal-requires c κs = search needs
-
 returns : tie.Need-returns
 returns c =
     let s = c .before .before .before .before .before in
     let e = c .before .handed-refusal .ensures in
     e ∙ sym (append-parts (s .args .d) (handed s) (s .args .bytes) ∙ rw (ne-eqb (refusalOf (s .args .d) (handed s)) 0 (λ q. c .if1 .taken (e ∙ q))))
-
-extension-refusal-requires : tie.Need-extension-refusal-requires
-extension-refusal-requires c κs = search needs
 
 returns-2 : tie.Need-returns-2
 returns-2 c =
@@ -78,4 +72,4 @@ returns-3 c =
 pub append-refusal-spec : {M : Type 1} → statement M
 append-refusal-spec =
     tie.close
-    (tie.spec handed-refusal-requires returns extension-refusal-requires returns-2 head-of-requires space-refusal-requires returns-3)
+    (tie.spec (λ c κs. search needs) returns (λ c κs. search needs) returns-2 head-of-requires space-refusal-requires returns-3)

@@ -10,12 +10,6 @@ use Rattle.writer.proofs.placing.addresses_after.Tie as tie
 extended : (c : tie.Then1) → full (c .before .args .d) ≡ true
 extended c = sym (c .before .pre .3) ∙ c .if1 .taken
 
-new-area-requires : tie.Need-new-area-requires
-new-area-requires c κs = search needs
-
-mul-table : tie.Need-mul-table
-mul-table c = search needs
-
 array-set-from-table : tie.Need-array-set-from-table
 array-set-from-table c = let s = c .before .before in nex-more (s .args .d) (s .pre .0) (s .pre .4) (extended (c .before)) .0
 
@@ -29,4 +23,4 @@ returns-2 c = rw (sym (c .before .pre .3) ∙ c .if1 .left)
 
 pub addresses-after-spec : {M : Type 1} → statement M
 addresses-after-spec =
-    tie.close (tie.spec new-area-requires mul-table array-set-from-table returns returns-2)
+    tie.close (tie.spec (λ c κs. search needs) (λ c. search needs) array-set-from-table returns returns-2)

@@ -21,20 +21,11 @@ records : (c : tie.After-area-records) → let d = c .before .before .before .be
     c .area-records .result ≡ areaRecords (capacityOf (growthIn d) (d .nex + 1)) (d .lind) (d .reclen)
 records c = rw (own (c .before .before)) at (c .area-records .ensures)
 
-new-requires : tie.Need-new-requires
-new-requires c κs = search needs
-
-add-t4 : tie.Need-add-t4
-add-t4 c = search needs
-
 capacity-requires : tie.Need-capacity-requires
 capacity-requires c κs =
     let s = c .before .before in
     let q : s .args .d .nex + 1 - 1 ≡ s .args .d .nex = omega arith in
     (omega arith, omega arith, rw (c .before .new .ensures, q) (growing (s .args .d) (s .args .d .nex) (s .pre .0) (omega arith)))
-
-new-area-requires : tie.Need-new-area-requires
-new-area-requires c κs = search needs
 
 area-records-requires : tie.Need-area-records-requires
 area-records-requires c κs = let s = c .before .before .before .before in (rw (own (c .before)) (s .pre .4), s .pre .0 .lind-high, omega (arith, s .pre .0 .reclen-low), s .pre .0 .reclen-high)
@@ -53,10 +44,10 @@ pub after-new-area-spec : {M : Type 1} → statement M
 after-new-area-spec =
     tie.close
     (tie.spec
-    new-requires
-    add-t4
+    (λ c κs. search needs)
+    (λ c. search needs)
     capacity-requires
-    new-area-requires
+    (λ c κs. search needs)
     area-records-requires
     add-t7
     returns)

@@ -28,13 +28,10 @@ position-requires c κs =
 returns : tie.Need-returns
 returns c = rw (start-extended (c .before .before .before .args .d) (extended (c .before .before))) (rw (c .before .after-new-area .ensures) at (c .position .ensures))
 
-free-position-requires : tie.Need-free-position-requires
-free-position-requires c κs = search needs
-
 returns-2 : tie.Need-returns-2
 returns-2 c = let s = c .before .before in c .free-position .ensures ∙ sym (start-free (s .args .d) (sym (s .pre .3) ∙ c .before .if1 .left))
 
 pub entry-start-spec : {M : Type 1} → statement M
 entry-start-spec =
     tie.close
-    (tie.spec after-new-area-requires position-requires returns free-position-requires returns-2)
+    (tie.spec after-new-area-requires position-requires returns (λ c κs. search needs) returns-2)

@@ -6,12 +6,6 @@ use borrow.Author.Needs.{needs}
 use Rattle.writer.proofs.placing.is_full.Statement.{statement}
 use Rattle.writer.proofs.placing.is_full.Tie as tie
 
-entries-before-requires : tie.Need-entries-before-requires
-entries-before-requires c κs = search needs
-
-new-requires : tie.Need-new-requires
-new-requires c κs = search needs
-
 total-requires : tie.Need-total-requires
 total-requires c κs = let s = c .before .before in (s .pre .0 .nex-high, rw (c .new .ensures) (growing (s .args .d) (s .args .d .nex) (s .pre .0) (omega arith)))
 
@@ -20,4 +14,4 @@ unfolding full
 returns c = rw (c .before .before .entries-before .ensures, rw (c .before .new .ensures) at (c .total .ensures))
 
 pub is-full-spec : {M : Type 1} → statement M
-is-full-spec = tie.close (tie.spec entries-before-requires new-requires total-requires returns)
+is-full-spec = tie.close (tie.spec (λ c κs. search needs) (λ c κs. search needs) total-requires returns)

@@ -9,12 +9,6 @@ use borrow.Author.Needs.{needs}
 use Rattle.writer.proofs.placing.new_area.Statement.{statement}
 use Rattle.writer.proofs.placing.new_area.Tie as tie
 
-free-position-requires : tie.Need-free-position-requires
-free-position-requires c κs = search needs
-
-records-for-requires : tie.Need-records-for-requires
-records-for-requires c κs = search needs
-
 records : (c : tie.After-records-for) → let d = c .before .before .args .d in c .records-for .result ≡ recordsFor (freeOf d) (d .reclen)
 records c = rw (c .before .free-position .ensures) at (c .records-for .ensures)
 
@@ -27,4 +21,4 @@ unfolding newArea
 returns c = rw (records c)
 
 pub new-area-spec : {M : Type 1} → statement M
-new-area-spec = tie.close (tie.spec free-position-requires records-for-requires add-t4 returns)
+new-area-spec = tie.close (tie.spec (λ c κs. search needs) (λ c κs. search needs) add-t4 returns)

@@ -5,9 +5,6 @@ use borrow.Author.Needs.{needs}
 use Rattle.writer.proofs.placing.nex_after.Statement.{statement}
 use Rattle.writer.proofs.placing.nex_after.Tie as tie
 
-add-result : tie.Need-add-result
-add-result c = search needs
-
 returns : tie.Need-returns
 unfolding nexAfter
 returns c = rw (sym (c .before .before .pre .1) ∙ c .before .if1 .taken)
@@ -17,4 +14,4 @@ unfolding nexAfter
 returns-2 c = rw (sym (c .before .pre .1) ∙ c .if1 .left)
 
 pub nex-after-spec : {M : Type 1} → statement M
-nex-after-spec = tie.close (tie.spec add-result returns returns-2)
+nex-after-spec = tie.close (tie.spec (λ c. search needs) returns returns-2)

@@ -1,23 +1,20 @@
 -- `writer::storing::adata_of` meets its contract. Assumes nothing.
+use mathlib.Core.Path.{ap}
+use native.Mathlib.Omega.{arith}
 use borrow.Author.Tests.{eq-eqb, ne-eqb}
 use borrow.Author.Needs.{needs}
+use Rattle.geometry.specs.declared.units.EntryAddress.{EntryAddress}
 use Rattle.writer.proofs.storing.adata_of.Statement.{statement}
 use Rattle.writer.proofs.storing.adata_of.Tie as tie
 
 returns : tie.Need-returns
 returns c = rw (eq-eqb (c .before .args .ldata) 0 (c .if1 .taken))
 
-mul-result : tie.Need-mul-result
-mul-result c = search needs
-
-add-result : tie.Need-add-result
-add-result c = search needs
-
-add-result-2 : tie.Need-add-result-2
-add-result-2 c = search needs
+add-t6 : tie.Need-add-t6
+add-t6 c = omega (arith, ap (λ (a : EntryAddress). a .0) (c .before .first-content .ensures))
 
 returns-2 : tie.Need-returns-2
-returns-2 c = rw (ne-eqb (c .before .args .ldata) 0 (c .if1 .left))
+returns-2 c = rw (c .before .first-content .ensures, ne-eqb (c .before .before .before .args .ldata) 0 (c .before .before .if1 .left))
 
 pub adata-of-spec : {M : Type 1} → statement M
-adata-of-spec = tie.close (tie.spec returns mul-result add-result add-result-2 returns-2)
+adata-of-spec = tie.close (tie.spec returns (λ c κs. search needs) add-t6 returns-2)

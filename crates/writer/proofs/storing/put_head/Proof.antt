@@ -10,39 +10,6 @@ use borrow.Author.Needs.{needs}
 use Rattle.writer.proofs.storing.put_head.Statement.{statement}
 use Rattle.writer.proofs.storing.put_head.Tie as tie
 
-entry-position-requires : tie.Need-entry-position-requires
-entry-position-requires c κs = search needs
-
-byte-offset-requires : tie.Need-byte-offset-requires
-byte-offset-requires c κs = search needs
-
-slice-aggregate-put : tie.Need-slice-aggregate-put
-slice-aggregate-put c = search needs
-
-put-requires : tie.Need-put-requires
-put-requires c κs = search needs
-
-entry-position-requires-2 : tie.Need-entry-position-requires-2
-entry-position-requires-2 c κs = search needs
-
-byte-offset-requires-2 : tie.Need-byte-offset-requires-2
-byte-offset-requires-2 c κs = search needs
-
-put-i32-requires : tie.Need-put-i32-requires
-put-i32-requires c κs = search needs
-
-entry-position-requires-3 : tie.Need-entry-position-requires-3
-entry-position-requires-3 c κs = search needs
-
-byte-offset-requires-3 : tie.Need-byte-offset-requires-3
-byte-offset-requires-3 c κs = search needs
-
-cast-put-u32 : tie.Need-cast-put-u32
-cast-put-u32 c = search needs
-
-put-u32-requires : tie.Need-put-u32-requires
-put-u32-requires c κs = search needs
-
 abbrev start-of : tie.After-put-u32 → tie.Start
 start-of c = c .before .before .before .before .before .before .before .before .before .before .before .before .before .before .before .before .before .before .before .before
 
@@ -52,9 +19,6 @@ three : (c : tie.After-put-u32) → let a = start-of c .args in
 three c =
     let h = c .before .before .before .before .before .before .before .before .struct-told .given .0 .1 in
     cc (toZ-ofZ {w = w32} {z = start-of c .args .head .version} (record { sfits = h }))
-
-put-word8-requires : tie.Need-put-word8-requires
-put-word8-requires c κs = search needs
 
 put-word8-requires-2 : tie.Need-put-word8-requires-2
 put-word8-requires-2 c κs = omega (arith, c .before .before .before .before .before .before .before .before .before .before .before .before .before .before)
@@ -77,18 +41,18 @@ pub put-head-spec : {M : Type 1} → statement M
 put-head-spec =
     tie.close
     (tie.spec
-    entry-position-requires
-    byte-offset-requires
-    slice-aggregate-put
-    put-requires
-    entry-position-requires-2
-    byte-offset-requires-2
-    put-i32-requires
-    entry-position-requires-3
-    byte-offset-requires-3
-    cast-put-u32
-    put-u32-requires
-    put-word8-requires
+    (λ c κs. search needs)
+    (λ c κs. search needs)
+    (λ c. search needs)
+    (λ c κs. search needs)
+    (λ c κs. search needs)
+    (λ c κs. search needs)
+    (λ c κs. search needs)
+    (λ c κs. search needs)
+    (λ c κs. search needs)
+    (λ c. search needs)
+    (λ c κs. search needs)
+    (λ c κs. search needs)
     put-word8-requires-2
     put-word8-requires-3
     put-word8-requires-4

@@ -18,35 +18,14 @@ use Rattle.writer.proofs.tables.put_addresses.Statement.{statement}
 use Rattle.writer.proofs.tables.put_addresses.Tie as tie
 
 abbrev Inv-loop : tie.InvT-loop
-Inv-loop file₀ position first lengths address₀ done₀ file address done =
-    (done ≤ length lengths) × (length file ≡ length file₀) × (address ≡ first + sumOf (take done lengths)) × (file ≡ splice file₀ (offsetOf position) (addressBytes first (take done lengths)))
+Inv-loop file₀ position lengths first done₀ file address done =
+    (done ≤ length lengths) × (length file ≡ length file₀) × (address ≡ first + sumOf (take done lengths)) × (file ≡ splice file₀ (offsetOf position) (addressBytes (record { 0 = first }) (take done lengths)))
 
 abbrev μ-loop : tie.MeasureT-loop
-μ-loop file₀ position first lengths address₀ done₀ file address done = length lengths - done
+μ-loop file₀ position lengths first done₀ file address done = length lengths - done
 
 loop-holds : tie.Need-loop-holds Inv-loop μ-loop
 loop-holds c = (omega arith, refl, omega arith, sym (splice-nil _ _))
-
-mul-byte-offset : tie.Need-mul-byte-offset Inv-loop μ-loop
-mul-byte-offset c = search needs
-
-add-byte-offset : tie.Need-add-byte-offset Inv-loop μ-loop
-add-byte-offset c = search needs
-
-byte-offset-requires : tie.Need-byte-offset-requires Inv-loop μ-loop
-byte-offset-requires c κs = search needs
-
-put-u64-requires : tie.Need-put-u64-requires Inv-loop μ-loop
-put-u64-requires c κs = search needs
-
-mul-bits64 : tie.Need-mul-bits64 Inv-loop μ-loop
-mul-bits64 c = search needs
-
-shared-slice-copy-out-bits64 : tie.Need-shared-slice-copy-out-bits64 Inv-loop μ-loop
-shared-slice-copy-out-bits64 c = search needs
-
-bits64-requires : tie.Need-bits64-requires Inv-loop μ-loop
-bits64-requires c κs = search needs
 
 -- what is added to the address is the length passed
 words : (c : tie.After-bits64 Inv-loop μ-loop) → c .bits64 .result ≡ wordsOf (getD (now (c .before .before .before .before .before .before .before .before .before .before .args .lengths)) (c .before .before .before .before .before .before .before .before .loop .done) (pos 0))
@@ -58,12 +37,6 @@ add-address c =
     let l = c .before .before .before .before .before .before .before .before .loop in
     omega (arith, words c, sum-next (now (s .args .lengths)) (l .done) (omega arith), sum-fewer (now (s .args .lengths)) (l .done + 1))
 
-add-done : tie.Need-add-done Inv-loop μ-loop
-add-done c = search needs
-
-loop-less : tie.Need-loop-less Inv-loop μ-loop
-loop-less c = search needs
-
 loop-again : tie.Need-loop-again Inv-loop μ-loop
 loop-again c =
     let p = c .before .before .before .before in
@@ -72,12 +45,9 @@ loop-again c =
       omega arith,
       omega arith,
       omega (arith, words c, sum-next (now (a .lengths)) (l .done) (omega arith)),
-      table-turn address-table (now (a .file)) (offsetOf (a .position)) (a .first) (now (a .lengths)) (l .done) (l .file) (p .put-u64 .last .0) (p .before .byte-offset .result)
+      table-turn address-table (now (a .file)) (offsetOf (a .position)) (a .first .0) (now (a .lengths)) (l .done) (l .file) (p .put-u64 .last .0) (p .before .byte-offset .result)
           (omega arith) (l .inv .3) (omega arith) (rw (l .inv .2) at (p .put-u64 .ensures)),
     )
-
-same-length : tie.Need-same-length Inv-loop μ-loop
-same-length c = search needs
 
 returns : tie.Need-returns Inv-loop μ-loop
 returns c = rw (take-all _ _ (c .loop-test .left)) at (c .before .loop .inv .3)
@@ -89,16 +59,16 @@ put-addresses-spec =
     Inv-loop
     μ-loop
     loop-holds
-    mul-byte-offset
-    add-byte-offset
-    byte-offset-requires
-    put-u64-requires
-    mul-bits64
-    shared-slice-copy-out-bits64
-    bits64-requires
+    (λ c. search needs)
+    (λ c. search needs)
+    (λ c κs. search needs)
+    (λ c κs. search needs)
+    (λ c. search needs)
+    (λ c. search needs)
+    (λ c κs. search needs)
     add-address
-    add-done
-    loop-less
+    (λ c. search needs)
+    (λ c. search needs)
     loop-again
-    same-length
+    (λ c. search needs)
     returns)

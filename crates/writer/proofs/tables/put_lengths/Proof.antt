@@ -26,30 +26,6 @@ abbrev μ-loop : tie.MeasureT-loop
 loop-holds : tie.Need-loop-holds Inv-loop μ-loop
 loop-holds c = (omega arith, refl, sym (splice-nil _ _))
 
-mul-words : tie.Need-mul-words Inv-loop μ-loop
-mul-words c = search needs
-
-shared-slice-copy-out-words : tie.Need-shared-slice-copy-out-words Inv-loop μ-loop
-shared-slice-copy-out-words c = search needs
-
-mul-byte-offset : tie.Need-mul-byte-offset Inv-loop μ-loop
-mul-byte-offset c = search needs
-
-add-byte-offset : tie.Need-add-byte-offset Inv-loop μ-loop
-add-byte-offset c = search needs
-
-byte-offset-requires : tie.Need-byte-offset-requires Inv-loop μ-loop
-byte-offset-requires c κs = search needs
-
-put-i64-requires : tie.Need-put-i64-requires Inv-loop μ-loop
-put-i64-requires c κs = search needs
-
-add-done : tie.Need-add-done Inv-loop μ-loop
-add-done c = search needs
-
-loop-less : tie.Need-loop-less Inv-loop μ-loop
-loop-less c = search needs
-
 loop-again : tie.Need-loop-again Inv-loop μ-loop
 loop-again c =
     let p = c .before .before in
@@ -62,9 +38,6 @@ loop-again c =
           (omega arith) (l .inv .2) (omega arith) (rw read at (p .put-i64 .ensures)),
     )
 
-same-length : tie.Need-same-length Inv-loop μ-loop
-same-length c = search needs
-
 returns : tie.Need-returns Inv-loop μ-loop
 returns c = rw (take-all _ _ (c .loop-test .left)) at (c .before .loop .inv .2)
 
@@ -75,14 +48,14 @@ put-lengths-spec =
     Inv-loop
     μ-loop
     loop-holds
-    mul-words
-    shared-slice-copy-out-words
-    mul-byte-offset
-    add-byte-offset
-    byte-offset-requires
-    put-i64-requires
-    add-done
-    loop-less
+    (λ c. search needs)
+    (λ c. search needs)
+    (λ c. search needs)
+    (λ c. search needs)
+    (λ c κs. search needs)
+    (λ c κs. search needs)
+    (λ c. search needs)
+    (λ c. search needs)
     loop-again
-    same-length
+    (λ c. search needs)
     returns)

@@ -1,0 +1,101 @@
+-- `entry::rules::head_refusal` meets its contract: each test is a row of the table, passed one after the other. Assumes nothing.
+use Prim.Native.Nat.{ℕ, _+_}
+use mathlib.Core.Path.{_≡_, refl, sym}
+use mathlib.Core.Bool.{Bool, true, false}
+use mathlib.Core.List.{List}
+use native.Mathlib.Omega.{arith}
+use borrow.Author.Tests.{le-leb, lt-leb, eq-eqb, ne-eqb}
+use lib.Dec.{leb, eqb}
+use mir.Syntax.{w32, w64}
+use Rattle.words.specs.Word.{integer4, integer8, signedOf}
+use Rattle.words.specs.Range.{within, atLeast}
+use Rattle.words.specs.Code.{sameBytes}
+use Rattle.words.proofs.Ranges.{within-bounds, atLeast-bounds}
+use Rattle.descriptor.specs.Refusal.{Rule}
+use Rattle.descriptor.specs.FirstRecord.{freeOf}
+use Rattle.descriptor.proofs.Tests.{holds, broken}
+use Rattle.descriptor.proofs.Refusals.{Past, past-none, next, holdsAt, numberAt, refusal-at}
+use Rattle.layout.specs.EntryWords.{entryCode, descriptorWords}
+use Rattle.entry.specs.EntryDescriptor.{entryCodeOf, nsecOf, nwordOf, xnumOf}
+use Rattle.entry.specs.Opening.{headRules, headRefusal}
+use borrow.Author.Needs.{needs}
+use Rattle.entry.proofs.rules.head_refusal.Statement.{statement}
+use Rattle.entry.proofs.rules.head_refusal.Tie as tie
+
+abbrev rules : tie.Start → List Rule
+rules s = headRules (s .args .file .now) (s .args .d) (s .args .start) (s .args .number)
+
+-- the tests of the code are those of the table, and the places behind them
+code : (c : tie.After-code-at) → let a = c .before .before .before .before .args in c .code-at .result ≡ sameBytes (entryCodeOf (a .file .now) (a .start)) entryCode
+unfolding entryCodeOf
+code c = rw (c .before .byte-offset .ensures, c .before .before .entry-position .ensures) at (c .code-at .ensures)
+
+abbrev past-1 : tie.Else1 → Past rules 1
+past-1 c = next (past-none (c .before .before .before .before .before)) (holds (code (c .before)) (c .if1 .left))
+
+few : (c : tie.After-within4) → let a = past-1 (c .before .before) .given .args in c .within4 .result ≡ within 0 64 (signedOf integer4 (nsecOf (a .file .now) (a .start)))
+few c = rw (c .before .word4-at .ensures) at (c .within4 .ensures)
+
+abbrev past-2 : tie.Else2 → Past rules 2
+past-2 c = next (past-1 (c .before .before .before)) (holds (few (c .before)) (c .if2 .left))
+
+long : (c : tie.After-at-least8) → let a = past-2 (c .before .before .before) .given .args in
+    c .at-least8 .result ≡ atLeast (descriptorWords (nsecOf (a .file .now) (a .start))) (signedOf integer8 (nwordOf (a .file .now) (a .start)))
+long c = rw (c .before .descriptor-words .ensures, c .before .before .before .before .before .word4-at .ensures, c .before .before .word8-at .ensures) at (c .at-least8 .ensures)
+
+abbrev past-3 : tie.Else3 → Past rules 3
+past-3 c = next (past-2 (c .before .before .before .before)) (holds (long (c .before)) (c .if3 .left))
+
+-- the end of the entry, as the code and as the table have it
+ends : (c : tie.After-free-position) (b : Bool) → let p = past-3 (c .before) .given .args in
+    let w = c .before .before .before .before .word8-at in
+    leb (p .start + w .result) (c .free-position .result) ≡ b → leb (p .start + nwordOf (p .file .now) (p .start)) (freeOf (p .d)) ≡ b
+ends c b t = rw (c .before .before .before .before .word8-at .ensures, c .free-position .ensures) at t
+
+abbrev past-4 : tie.Else4 → Past rules 4
+past-4 c = next (past-3 (c .before .before)) (ends (c .before) true (le-leb _ _ (c .if4 .left)))
+
+same : (c : tie.After-struct-known) (b : Bool) → let p = past-4 (c .before .before) .given .args in eqb (c .before .word8-at2 .result) (p .number .0) ≡ b → eqb (xnumOf (p .file .now) (p .start)) (p .number .0) ≡ b
+same c b t = rw (c .before .word8-at2 .ensures) at t
+
+-- a test that fails gives the refusal of its row, and 0 is given where none fails
+stop : {k : ℕ} (p : Past rules k) → holdsAt k (rules (p .given)) ≡ false → let a = p .given .args in numberAt k (rules (p .given)) ≡ headRefusal (a .file .now) (a .d) (a .start) (a .number)
+unfolding headRefusal
+stop {k} p h = sym (refusal-at k (rules (p .given)) (p .rows) h)
+
+descriptor-words-requires : tie.Need-descriptor-words-requires
+descriptor-words-requires c κs =
+    let p = past-2 (c .before) in
+    let a = p .given .args in
+    rw (c .before .before .before .word4-at .ensures) (within-bounds w32 0 64 (nsecOf (a .file .now) (a .start)) (omega arith) (p .rows .1 .0) .1)
+
+add-if4 : tie.Need-add-if4
+add-if4 c =
+    let s = past-3 (c .before) .given in
+    omega (arith, c .before .before .before .before .word8-at .ensures, atLeast-bounds w64 (descriptorWords (nsecOf (s .args .file .now) (s .args .start))) (nwordOf (s .args .file .now) (s .args .start)) (past-3 (c .before) .rows .1 .1 .0), s .pre .2, s .pre .3)
+
+pub head-refusal-spec : {M : Type 1} → statement M
+head-refusal-spec =
+    tie.close
+    (tie.spec
+    (λ c κs. search needs)
+    (λ c κs. search needs)
+    (λ c. search needs)
+    (λ c. search needs)
+    (λ c. search needs)
+    (λ c. search needs)
+    (λ c κs. search needs)
+    (λ c. stop (past-none (c .before .before .before .before .before)) (broken (code (c .before)) (c .if1 .taken)))
+    (λ c κs. search needs)
+    (λ c κs. search needs)
+    (λ c. stop (past-1 (c .before .before .before)) (broken (few (c .before)) (c .if2 .taken)))
+    (λ c κs. search needs)
+    descriptor-words-requires
+    (λ c κs. search needs)
+    (λ c. stop (past-2 (c .before .before .before .before)) (broken (long (c .before)) (c .if3 .taken)))
+    (λ c κs. search needs)
+    add-if4
+    (λ c. stop (past-3 (c .before .before)) (ends (c .before) false (lt-leb _ _ (c .if4 .taken))))
+    (λ c κs. search needs)
+    (λ c. stop (past-4 (c .before .before .before)) (same (c .before) false (ne-eqb _ _ (c .if5 .taken))))
+    (λ c. stop (next (past-4 (c .before .before .before)) (same (c .before) true (eq-eqb _ _ (c .if5 .left)))) refl))
