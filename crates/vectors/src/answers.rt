@@ -1,17 +1,32 @@
-// One line for each case: the call, the case's name and the answer.
-use super::printing::field;
-use super::printing::number;
-use super::printing::signed4;
-use super::printing::signed8;
-use super::printing::text;
-use super::printing::words_of;
-use classic::Appended;
+// The calls that read a file: a line of the call, the case's name and the answer.
+use super::printing::CHECK;
+use super::printing::DATA;
+use super::printing::DESCRIBE;
+use super::printing::DESCRIBE_END;
+use super::printing::DESCRIBE_ON;
+use super::printing::END;
+use super::printing::EXTENSION;
+use super::printing::INDEX;
+use super::printing::OPEN;
+use super::printing::OPEN_ON;
+use super::printing::PART;
+use super::printing::PLACE;
+use super::printing::SECTION;
+use super::printing::TABLES;
+use super::printing::VALIDATE;
+use super::printing::WORD;
+use super::printing::WORDS;
+use super::printing::print;
+use super::reading::bytes_before;
+use super::reading::bytes_of;
 use classic::DataPlace;
+use classic::DescriptorNumbers;
 use classic::EntryNumber;
 use classic::ExtensionNumber;
 use classic::Open;
 use classic::Place;
 use classic::RecordNumber;
+use classic::Sections;
 use classic::Validated;
 use classic::check_order;
 use classic::data_array;
@@ -26,162 +41,209 @@ use classic::section;
 use classic::section_place;
 use classic::section_refusal;
 use classic::validate;
+ghost use Prim.Native.Nat.{_+_, _<_, _≤_};
+ghost use lib.ListN.{length};
 
-// Begins a line.
-pub(crate) fn begin(call: &[u8], name: &[u8]) {
-    text(call);
-    text(b" ");
-    text(name);
-    text(b":");
+// The 64 bits of an Integer*4.
+fn wide(value: i32) -> u64 {
+    let bits = words::bits32(value) as u64;
+    if bits < 0x8000_0000 {
+        bits
+    } else {
+        bits + 0xffff_ffff_0000_0000
+    }
 }
 
-// Ends a line with a refusal.
-fn refused(refusal: u32) {
-    field(b"refused", refusal as u64);
-    text(b"\n");
+// Ends a line.
+pub(crate) fn end(name: &[u8]) {
+    print(END, 0, name, 0, 0, 0, 0);
 }
 
 // Validates a file: admitted, or the refusal.
 pub(crate) fn validated(name: &[u8], file: &[u8]) {
-    begin(b"validate", name);
-    let refusal = validate(file).refusal;
-    if refusal == 0 {
-        text(b" admitted\n");
-    } else {
-        refused(refusal);
-    }
+    print(VALIDATE, validate(file).refusal as u64, name, 0, 0, 0, 0);
+}
+
+// Writes one of the 16 places of addresses.
+fn address(name: &[u8], table: [RecordNumber; 16], i: usize)
+    requires { ⌜ i < 16 ⌝ }
+{
+    let here = table[i];
+    print(WORD, 0, name, here.0, 0, 0, 0);
 }
 
 // Writes the 16 places of addresses.
-fn addresses(table: [RecordNumber; 16]) {
-    text(b" aex");
+fn addresses(name: &[u8], table: [RecordNumber; 16]) {
     for i in 0..16 {
-        let here = table[i];
-        text(b" ");
-        number(here.0);
+        address(name, table, i);
     }
+    end(name);
+}
+
+// Writes the numbers of a descriptor.
+fn numbers(name: &[u8], d: DescriptorNumbers, table: [RecordNumber; 16]) {
+    print(DESCRIBE, 0, name, d.reclen, d.kind, d.vind, d.lind);
+    print(
+        DESCRIBE_ON,
+        0,
+        name,
+        d.flags,
+        d.xnext.0,
+        d.nextrec.0,
+        d.nextword.0,
+    );
+    print(DESCRIBE_END, 0, name, d.lex1, d.nex, d.gex, 0);
+    addresses(name, table);
 }
 
 // Validates a file and writes all its numbers.
 pub(crate) fn described(name: &[u8], file: &[u8]) {
-    begin(b"validate", name);
     let validation = validate(file);
     let case = validation.numbers;
-    let Validated::Numbers(d) = case else {
-        return refused(validation.refusal);
-    };
-    field(b"reclen", d.reclen);
-    field(b"kind", d.kind);
-    field(b"vind", d.vind);
-    field(b"lind", d.lind);
-    field(b"flags", d.flags);
-    field(b"xnext", d.xnext.0);
-    field(b"nextrec", d.nextrec.0);
-    field(b"nextword", d.nextword.0);
-    field(b"lex1", d.lex1);
-    field(b"nex", d.nex);
-    field(b"gex", d.gex);
     let table = validation.addresses;
-    addresses(table);
-    text(b"\n");
+    match case {
+        Validated::Numbers(d) => numbers(name, d, table),
+        Validated::Refused(n) => print(VALIDATE, n as u64, name, 0, 0, 0, 0),
+    }
 }
 
 // An extension by its number.
 pub(crate) fn extended(name: &[u8], file: &[u8], asked: u64) {
-    begin(b"extension", name);
-    let extension = extension_of(file, ExtensionNumber(asked));
-    if extension.refusal != 0 {
-        return refused(extension.refusal);
-    }
-    field(b"capacity", extension.capacity);
-    field(b"first", extension.first.0);
-    field(b"records", extension.records);
-    text(b"\n");
+    let e = extension_of(file, ExtensionNumber(asked));
+    print(
+        EXTENSION,
+        e.refusal as u64,
+        name,
+        e.capacity,
+        e.first.0,
+        e.records,
+        0,
+    );
 }
 
-// Writes the numbers of an opened entry.
-fn numbers(place: Place, version: i32, nsec: u64, nword: u64, array: DataPlace) {
-    field(b"record", place.record.0);
-    field(b"word", place.word.0);
-    text(b" version ");
-    signed4(version);
-    field(b"nsec", nsec);
-    field(b"nword", nword);
-    text(b" adata ");
-    signed8(array.adata.0);
-    field(b"ldata", array.ldata);
-    text(b"\n");
+// Writes the numbers of an entry.
+fn entered(name: &[u8], place: Place, version: i32, nsec: u64, nword: u64, array: DataPlace) {
+    print(
+        OPEN,
+        0,
+        name,
+        place.record.0,
+        place.word.0,
+        wide(version),
+        0,
+    );
+    print(
+        OPEN_ON,
+        0,
+        name,
+        nsec,
+        nword,
+        words::bits64(array.adata.0),
+        array.ldata,
+    );
 }
 
 // Opens an entry by its number.
 pub(crate) fn opened(name: &[u8], file: &[u8], asked: u64) {
-    begin(b"open", name);
     let answer = open_entry(file, EntryNumber(asked)).answer;
     match answer {
         Open::Numbers(place, version, nsec, nword, array) => {
-            numbers(place, version, nsec, nword, array)
+            entered(name, place, version, nsec, nword, array)
         }
-        Open::Refused(refusal) => refused(refusal),
+        Open::Refused(n) => print(OPEN, n as u64, name, 0, 0, 0, 0),
     }
 }
 
 // Writes a place of the three tables, unless it has nothing but zeros.
-fn table_place(place: u64, identifier: i32, length: u64, address: u64) {
-    if identifier == 0 && length == 0 && address == 0 {
-        return;
-    }
-    field(b"place", place);
-    text(b" identifier ");
-    signed4(identifier);
-    field(b"length", length);
-    field(b"address", address);
-}
-
-// Opens an entry and writes its three tables, without the places that are zero.
-pub(crate) fn tabled(name: &[u8], file: &[u8], asked: u64) {
-    begin(b"tables", name);
-    let sections = open_entry(file, EntryNumber(asked)).sections;
+fn table_place(name: &[u8], sections: Sections, i: usize)
+    requires { ⌜ i < 64 ⌝ }
+{
     let identifiers = sections.identifiers;
     let lengths = sections.lengths;
-    let table = sections.addresses;
+    let addresses = sections.addresses;
+    let address = addresses[i];
+    let identifier = wide(identifiers[i]);
+    let length = lengths[i];
+    let nothing = (identifier | length | address.0) == 0;
+    print(
+        PLACE,
+        nothing as u64,
+        name,
+        i as u64 + 1,
+        identifier,
+        length,
+        address.0,
+    );
+}
+
+// Writes the three tables, without the places that are zero.
+fn tables(name: &[u8], sections: Sections) {
     for i in 0..64 {
-        let address = table[i];
-        table_place(i as u64 + 1, identifiers[i], lengths[i], address.0);
+        table_place(name, sections, i);
     }
-    text(b"\n");
+}
+
+// Opens an entry and writes its three tables.
+pub(crate) fn tabled(name: &[u8], file: &[u8], asked: u64) {
+    print(TABLES, 0, name, 0, 0, 0, 0);
+    tables(name, open_entry(file, EntryNumber(asked)).sections);
+    end(name);
+}
+
+// The number that the bytes of a word are in the order of the file.
+fn in_order(word: u32) -> u64 {
+    let bits = word as u64;
+    bits % 256 * 16777216 + bits / 256 % 256 * 65536 + bits / 65536 % 256 * 256 + bits / 16777216
+}
+
+// Writes a word behind a space: below 2^24 as a number, any other as x and its four bytes in the order of the file.
+fn word(bytes: &[u8], at: usize)
+    requires { ⌜ at + 4 ≤ length (now bytes) ⌝ }
+{
+    let bits = words::u32_at(bytes, at);
+    if bits < 0x100_0000 {
+        print(WORD, 0, bytes, bits as u64, 0, 0, 0);
+    } else {
+        print(WORD, 1, bytes, in_order(bits), 0, 0, 0);
+    }
+}
+
+// Writes the words of a part, each behind a space, and ends the line.
+fn words_of(bytes: &[u8]) {
+    for i in 0..bytes.len() / 4 {
+        word(bytes, 4 * i);
+    }
+    end(bytes);
 }
 
 // Writes a part that was handed out, or the refusal.
-fn part(refusal: u32, start: usize, bytes: &[u8]) {
-    if refusal == 0 {
-        field(b"at byte", start as u64);
-    } else {
-        field(b"refused", refusal as u64);
-    }
-    if 0 < bytes.len() {
-        text(b" words");
-    } else {
-        text(b" no words");
-    }
+fn part(form: usize, refusal: u32, name: &[u8], start: usize, bytes: &[u8]) {
+    print(form, refusal as u64, name, start as u64, 0, 0, 0);
+    print(PART, (bytes.len() == 0) as u64, name, 0, 0, 0, 0);
     words_of(bytes);
-    text(b"\n");
 }
 
 // The index words of an entry.
 pub(crate) fn indexed(name: &[u8], file: &[u8], asked: u64) {
-    begin(b"index words", name);
     let refusal = index_words_refusal(file, EntryNumber(asked));
     let start = index_words_place(file, EntryNumber(asked)).start;
-    part(refusal, start, index_words(file, EntryNumber(asked)));
+    part(
+        INDEX,
+        refusal,
+        name,
+        start,
+        index_words(file, EntryNumber(asked)),
+    );
 }
 
 // A section of an entry by its identifier.
 pub(crate) fn sectioned(name: &[u8], file: &[u8], asked: u64, identifier: i32) {
-    begin(b"section", name);
     let refusal = section_refusal(file, EntryNumber(asked), identifier);
     let start = section_place(file, EntryNumber(asked), identifier).start;
     part(
+        SECTION,
         refusal,
+        name,
         start,
         section(file, EntryNumber(asked), identifier),
     );
@@ -189,49 +251,25 @@ pub(crate) fn sectioned(name: &[u8], file: &[u8], asked: u64, identifier: i32) {
 
 // The data of an entry.
 pub(crate) fn handed_data(name: &[u8], file: &[u8], asked: u64) {
-    begin(b"data", name);
     let refusal = data_array_refusal(file, EntryNumber(asked));
     let start = data_array_place(file, EntryNumber(asked)).start;
-    part(refusal, start, data_array(file, EntryNumber(asked)));
+    part(
+        DATA,
+        refusal,
+        name,
+        start,
+        data_array(file, EntryNumber(asked)),
+    );
 }
 
 // The order check.
 pub(crate) fn checked(name: &[u8], file: &[u8]) {
-    begin(b"check", name);
     let answer = check_order(file);
-    if answer.refusal == 0 {
-        text(b" passes\n");
-        return;
-    }
-    field(b"entry", answer.entry.0);
-    refused(answer.refusal);
+    print(CHECK, answer.refusal as u64, name, answer.entry.0, 0, 0, 0);
 }
 
-// An append: the new number, or the refusal and whether the bytes are those before it.
-pub(crate) fn appended(name: &[u8], answer: Appended, same: bool) {
-    begin(b"append", name);
-    if answer.refusal == 0 {
-        field(b"entry", answer.number.0);
-        text(b"\n");
-        return;
-    }
-    field(b"refused", answer.refusal as u64);
-    unchanged(same);
-    text(b"\n");
-}
-
-// Says whether bytes are unchanged.
-pub(crate) fn unchanged(same: bool) {
-    if same {
-        text(b" unchanged");
-    } else {
-        text(b" changed");
-    }
-}
-
-// The words of a part of a file.
-pub(crate) fn shown(name: &[u8], bytes: &[u8]) {
-    begin(b"words", name);
-    words_of(bytes);
-    text(b"\n");
+// The words of a file from one to another, counted from 1.
+pub(crate) fn shown(name: &[u8], file: &[u8], first: u64, last: u64) {
+    print(WORDS, 0, name, 0, 0, 0, 0);
+    words_of(bytes_of(file, bytes_before(first), bytes_before(last) + 4));
 }

@@ -1,154 +1,131 @@
-// The files that the cases are run on: file A of the scope of work, and files with words written over.
-use classic::Settings;
-use classic::append;
-use classic::create;
+// The room: the bytes of the file that the calls are made on, the bytes saved before a call, and the files kept.
+use super::printing::wrong;
+use super::reading::bits_at;
+use super::reading::byte_at;
+use super::reading::bytes_before;
+use super::reading::bytes_of;
+use super::reading::int4;
+use super::reading::least;
+ghost use Prim.Native.Nat.{_+_, _≤_};
+ghost use mathlib.Core.Path.{_≡_};
+ghost use lib.ListN.{length};
 
-// How many words of file A come before the index of entry 1.
-pub(crate) const INDEX_1: usize = 20;
+// The most bytes of a file, those of P9.
+pub(crate) const FILE: usize = 789176;
 
-// The same of the index of entry 2.
-pub(crate) const INDEX_2: usize = 24;
+// The bytes behind the lent ones that are looked at too.
+const BEHIND: usize = 16400;
 
-// The same of the index of entry 3, the first of the second index area.
-pub(crate) const INDEX_3: usize = 80;
+// Where the bytes saved before a call start.
+const SAVED: usize = 805576;
 
-// How many words of file A come before entry 1.
-pub(crate) const ENTRY_1: usize = 40;
+// Where the files that are kept start.
+const KEPT: usize = 1611152;
 
-// The same of entry 2.
-pub(crate) const ENTRY_2: usize = 64;
+// How many bytes the room has.
+pub(crate) const ROOM: usize = 1623632;
 
-// The same of entry 3.
-pub(crate) const ENTRY_3: usize = 100;
-
-// The bits of the Integer*8 that is -1.
-pub(crate) const MINUS_1: u64 = 0xffff_ffff_ffff_ffff;
-
-// The bits of the least Integer*8.
-pub(crate) const LEAST: u64 = 0x8000_0000_0000_0000;
-
-// The greatest Integer*8.
-pub(crate) const GREATEST: u64 = 0x7fff_ffff_ffff_ffff;
-
-// 2^32, which one word cannot hold.
-pub(crate) const WORD: u64 = 0x1_0000_0000;
-
-// 2^62, four of which wrap: a record so much later is at the same place if its number is multiplied unbounded.
-pub(crate) const WRAP: u64 = 0x4000_0000_0000_0000;
-
-// Settings with kind 1, vind 2 and flags 0.
-pub(crate) fn settings(reclen: i32, lind: i32, lex1: i32, gex: i32) -> Settings {
-    Settings {
-        reclen,
-        kind: 1,
-        vind: 2,
-        lind,
-        flags: 0,
-        lex1,
-        gex,
+// Copies bytes of the room.
+fn copy(room: &mut [u8], from: usize, to: usize, count: usize)
+    requires { ⌜ (from + count ≤ length (now room)) × (to + count ≤ length (now room)) ⌝ }
+{
+    for i in 0..count {
+        room[to + i] = room[from + i];
     }
 }
 
-// Writes an Integer*4 at a word of a file, counted from 1 at the file's start.
-pub(crate) fn put4(file: &mut [u8], word: usize, value: i32) {
-    if word < 1 {
-        return;
+// Saves the lent bytes and some behind them.
+pub(crate) fn save(room: &mut [u8], lent: usize)
+    requires { ⌜ (length (now room) ≡ 1623632) × (lent ≤ 789176) ⌝ }
+{
+    copy(room, 0, SAVED, lent + BEHIND);
+}
+
+// Whether bytes changed since they were saved, from an offset on.
+pub(crate) fn changed(room: &[u8], first: usize, lent: usize) -> bool
+    requires { ⌜ lent ≤ 789176 ⌝ }
+{
+    let from = least(first, BEHIND);
+    let bytes = bytes_of(room, from, lent + BEHIND);
+    let saved = bytes_of(room, SAVED + from, SAVED + lent + BEHIND);
+    !check::same(bytes, saved)
+}
+
+// Where the file of a letter is kept.
+fn kept_at(letter: &[u8]) -> usize
+    ensures { λ r. ⌜ r ≤ 1623152 ⌝ }
+{
+    let byte = byte_at(letter, 1);
+    if letter.len() != 2 {
+        wrong();
+        KEPT
+    } else if byte < b'A' {
+        wrong();
+        KEPT
+    } else if b'Z' < byte {
+        wrong();
+        KEPT
+    } else {
+        KEPT + 480 * (byte - b'A') as usize
     }
-    let before = word - 1;
-    if before < file.len() / 4 {
-        words::put_i32(file, 4 * before, value);
+}
+
+// Keeps a file of 480 bytes under a letter.
+pub(crate) fn keep(room: &mut [u8], letter: &[u8])
+    requires { ⌜ length (now room) ≡ 1623632 ⌝ }
+{
+    copy(room, 0, kept_at(letter), 480);
+}
+
+// Takes a file of 480 bytes that was kept.
+pub(crate) fn take(room: &mut [u8], letter: &[u8])
+    requires { ⌜ length (now room) ≡ 1623632 ⌝ }
+{
+    copy(room, kept_at(letter), 0, 480);
+}
+
+// Fills bytes with one.
+pub(crate) fn fill(room: &mut [u8], count: usize, byte: u64)
+    requires { ⌜ count ≤ length (now room) ⌝ }
+{
+    for i in 0..count {
+        room[i] = (byte % 256) as u8;
     }
 }
 
-// Writes an Integer*8, by its bits, at a word of a file and the next.
-pub(crate) fn put8(file: &mut [u8], word: usize, bits: u64) {
-    if word < 1 {
-        return;
+// Writes a number of 1, 4 or 8 bytes at an offset.
+fn put_one(file: &mut [u8], at: usize, width: usize, bits: u64)
+    requires { ⌜ at + 8 ≤ length (now file) ⌝ }
+{
+    match width {
+        1 => file[at] = (bits % 256) as u8,
+        4 => words::put_i32(file, at, int4(bits)),
+        _ => words::put_u64(file, at, bits),
     }
-    if word < file.len() / 4 {
-        words::put_u64(file, 4 * (word - 1), bits);
+}
+
+// Writes the numbers of a list one after another.
+pub(crate) fn put_all(file: &mut [u8], from: usize, width: usize, values: &[i64]) {
+    let mut at = from;
+    for i in 0..values.len() {
+        if file.len() < 8 {
+            return wrong();
+        }
+        if file.len() - 8 < at {
+            return wrong();
+        }
+        put_one(file, at, width, bits_at(values, i));
+        at = std::num::wrapping_add_usize(at, width);
     }
 }
 
-// File A with an Integer*4 written over it.
-pub(crate) fn with4(mut file: [u8; 480], word: usize, value: i32) -> [u8; 480] {
-    put4(&mut file, word, value);
-    file
-}
-
-// File A with an Integer*8 written over it.
-pub(crate) fn with8(mut file: [u8; 480], word: usize, bits: u64) -> [u8; 480] {
-    put8(&mut file, word, bits);
-    file
-}
-
-// File A with a byte written over it, counted from 0.
-pub(crate) fn with_byte(mut file: [u8; 480], at: usize, byte: u8) -> [u8; 480] {
-    if at < 480 {
-        file[at] = byte;
+// Writes the numbers of a list but the first, which is their place, over the lent bytes.
+pub(crate) fn put(room: &mut [u8], lent: usize, at: usize, width: usize, values: &[i64])
+    requires { ⌜ lent ≤ length (now room) ⌝ }
+{
+    if values.len() < 2 {
+        wrong();
+    } else {
+        put_all(&mut room[0..lent], at, width, &values[1..]);
     }
-    file
-}
-
-// Appends the first entry of file A.
-fn append_first(file: &mut [u8]) -> u32 {
-    let index = [101, 0, 0, 0];
-    let sections = [11, 0, 0, 0, 12, 0, 0, 0, 13, 0, 0, 0];
-    let values = [
-        21,
-        0,
-        0,
-        0,
-        22,
-        0,
-        0,
-        0,
-        23,
-        0,
-        0,
-        0,
-        24,
-        0,
-        0,
-        0,
-        25,
-        0,
-        0,
-        0,
-    ];
-    append(file, 1, &index, &[7], &[3], &sections, &values).refusal
-}
-
-// Appends an entry with one index word and nothing else.
-fn append_bare(file: &mut [u8], index_word: u8) -> u32 {
-    let index = [index_word, 0, 0, 0];
-    append(file, 1, &index, &[], &[], &[], &[]).refusal
-}
-
-// File A after its creation, in bytes that were all ee.
-pub(crate) fn a_created() -> [u8; 480] {
-    let mut file = [0xee; 480];
-    create(&mut file, settings(20, 4, 2, 20));
-    file
-}
-
-// File A after append (1).
-pub(crate) fn a_after_1() -> [u8; 480] {
-    let mut file = a_created();
-    append_first(&mut file);
-    file
-}
-
-// File A after append (2).
-pub(crate) fn a_after_2() -> [u8; 480] {
-    let mut file = a_after_1();
-    append_bare(&mut file, 102);
-    file
-}
-
-// File A.
-pub(crate) fn file_a() -> [u8; 480] {
-    let mut file = a_after_2();
-    append_bare(&mut file, 103);
-    file
 }
