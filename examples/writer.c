@@ -85,7 +85,7 @@ static uint8_t *index_word_of(uint64_t entry, size_t word) {
     return file + application.start - 4 * 3 + 4 * (word - 1);
 }
 
-/* a.classic, file A of document 01; d.classic is the same with its last record lost. */
+/* a.classic, file A of docs/FORMAT.md; d.classic is the same with its last record lost. */
 static void write_a_and_d(const char *folder) {
     static const addition additions[] = {{1, 1, {7}, {3}, 5}, {1, 0, {0}, {0}, 0}, {1, 0, {0}, {0}, 0}};
     create(6, (classic_settings){20, 1, 2, 4, 0, 2, 20});

@@ -1,5 +1,28 @@
 /* CLASSIC data containers, version 2 (IRAM memo 2013-2): a reader and writer over a file image that the
-   caller lends. Link with libclassic.a; no call allocates, keeps state or does input and output. */
+   caller lends. No call allocates, keeps state or does input and output. docs/FORMAT.md says what a file is.
+
+   A program that opens a file of up to a megabyte and prints how long section 7 of entry 1 is:
+
+       #include "classic.h"
+       #include <stdio.h>
+
+       int main(int argc, char **argv) {
+           static uint8_t file[1 << 20];
+           FILE *from = argc == 2 ? fopen(argv[1], "rb") : NULL;
+           if (from == NULL) return 2;
+           size_t bytes = fread(file, 1, sizeof file, from);
+           classic_part section = classic_section(file, bytes, 1, 7);
+           if (section.refusal != 0) printf("refusal %u\n", (unsigned)section.refusal);
+           else printf("%u words\n", (unsigned)(section.length / 4));
+           return section.refusal != 0;
+       }
+
+   It is built on x86-64 at the repository's top, after make lib, with the archive or with the shared library:
+
+       cc -std=c99 -Iinclude -o length length.c target/lib/libclassic.a
+       cc -std=c99 -Iinclude -o length length.c -Ltarget/lib -lclassic -Wl,-rpath,"$PWD/target/lib"
+
+   examples/reader.c prints all that a file holds, and examples/writer.c writes files. */
 #ifndef CLASSIC_H
 #define CLASSIC_H
 
@@ -15,6 +38,10 @@ extern "C" {
    of the entry. Capacities are in entries, lengths of sections and data in words. Only what is named in bytes
    (counts of lent bytes, and the start and length of a part) is in bytes, and a part's start alone is counted
    from 0.
+
+   Byte order. Numbers that are handed over, alone, in a struct or in an array, are the machine's own. In the file
+   Integer*4 and Integer*8 are little-endian and two's complement, and the calls turn them. Index words, sections and
+   data are bytes as the application has them: no call reads them as numbers or turns them.
 
    Lending. The file is the caller's whole buffer; bytes past the next free word are free room and mean nothing.
    Every buffer belongs to the caller, is used during the call only, and is never kept or freed. A call reads
