@@ -1,7 +1,9 @@
 -- The slot and the entry descriptor alone fix how an entry opens: two files that hold them alike have the same numbers, tables and places of parts. Assumes nothing.
 use Prim.Native.Nat.{ℕ, _+_, _*_, _≤_}
-use mathlib.Core.Path.{_≡_, refl, sym, ap, _∙_}
-use mathlib.Core.Bool.{Bool, true, false, cond}
+use mathlib.Core.Path.{_≡_, sym, ap, _∙_}
+use mathlib.Core.Bool.{true}
+use mathlib.Core.Logic.{inl, inr}
+use mathlib.Mathlib.Data.Bool.Basic.{dichotomy}
 use mathlib.Core.List.{List}
 use native.Mathlib.Omega.{arith}
 use borrow.Author.Tests.{le-leb, ltb-true}
@@ -19,15 +21,16 @@ use Rattle.geometry.specs.declared.units.Place.{Place}
 use Rattle.geometry.specs.Units.{positionOf, entriesBefore}
 use Rattle.layout.specs.EntryWords.{versionWord, nsecWord, nwordWord, xnumWord, descriptorWords}
 use Rattle.descriptor.specs.declared.numbers.DescriptorNumbers.{DescriptorNumbers}
-use Rattle.descriptor.specs.Refusal.{refusalIn, AllHold}
+use Rattle.descriptor.specs.Refusal.{refusalIn}
 use Rattle.descriptor.specs.FirstRecord.{freeOf}
 use Rattle.descriptor.specs.Bounds.{Admitted}
 use Rattle.descriptor.proofs.Refusals.{refusal-none, all-hold, hold-split}
-use Rattle.entry.specs.EntryDescriptor.{versionOf, nsecOf, nwordOf, xnumOf, sectionOf, dataOf}
-use Rattle.entry.specs.Tables.{sectionNamed}
-use Rattle.entry.specs.Opening.{slotPositionOf, placeStored, startOf, numberRules, startRules, headRules, startRefusal, headRefusal, contentRefusal, entryRules, entryRefusal, enteredOf}
-use Rattle.entry.specs.Answers.{openedAs, noPart, pieceFrom, indexPart, sectionPart, dataPart}
-use Rattle.entry.proofs.Entering.{Opens, entry-opens, entered-numbers, entry-content, contents, afterStart, afterNumber}
+use Rattle.pieces.specs.EntryDescriptor.{nsecOf, nwordOf, dataOf}
+use Rattle.pieces.specs.Tables.{sectionNamed}
+use Rattle.entry.specs.Opening.{slotPositionOf, placeStored, startOf, numberRules, startRules, headRules, entryRules, entryRefusal, enteredOf}
+use Rattle.entry.specs.Answers.{openedAs}
+use Rattle.entry.proofs.Entering.{Opens, entry-opens, entered-numbers, contents, afterStart, afterNumber}
+use Rattle.handing.specs.Parts.{indexPart, sectionPart, dataPart}
 use Rattle.alike.proofs.EntryFields.{bytes-same, word4-same, word8-same, code-same, data-same, section-same, content-same, tables-same, named-same}
 
 -- an entry that opens in a file, and another file that has its index and its descriptor where they were, and as many words and entries or more
@@ -59,10 +62,6 @@ module _ (f g : List ℕ) (d d′ : DescriptorNumbers) (addresses addresses′ :
   opened : Opens f d e place
   opened = entry-opens f d addresses e (t .admitted) (t .opens)
 
-  rows : AllHold (entryRules f d e place)
-  unfolding entryRefusal
-  rows = all-hold (entryRules f d e place) (omega arith) (t .opens)
-
   abbrev words : ℕ
   words = descriptorWords nsec
 
@@ -75,10 +74,9 @@ module _ (f g : List ℕ) (d d′ : DescriptorNumbers) (addresses addresses′ :
   place-there =
       let slot = slotPositionOf d addresses e in
       let within = bytes-same g f slot (d .lind) (t .index) in
-      let low = t .admitted .settled .lind-low in
       let first = bits-alike integer8 g f (4 * slot) (4 * slot) (within (4 * slot) 8 (omega arith) (omega arith)) in
       let second = bits-alike integer4 g f (4 * (slot + 2)) (4 * (slot + 2)) (within (4 * (slot + 2)) 4 (omega arith) (omega arith)) in
-      rw (t .slot) (λ i. record { «record» = record { 0 = first i }; word = record { 0 = second i } })
+      rw (t .slot, first, second)
 
   start-there : startOf d′ place ≡ start
   start-there = ap (λ (n : ℕ). positionOf n (place .«record») (place .word)) (t .reclen)
@@ -92,58 +90,30 @@ module _ (f g : List ℕ) (d d′ : DescriptorNumbers) (addresses addresses′ :
   data-there : dataOf g start ≡ dataOf f start
   data-there = data-same g f start words entry-bytes (omega arith)
 
-  version-there : versionOf g start ≡ versionOf f start
-  version-there = ap (signedOf w32) (word4-same g f start words entry-bytes versionWord (omega arith) (omega arith))
-
-  xnum-there : xnumOf g start ≡ xnumOf f start
-  xnum-there = word8-same g f start words entry-bytes xnumWord (omega arith) (omega arith)
-
-  number-there : refusalIn (numberRules d′ e) ≡ 0
-  number-there = rw (le-leb 1 (e .0) (opened .number-low), le-leb (e .0) (entriesBefore (d′ .xnext)) (omega (arith, opened .number-high, t .entries)))
-
-  start-passes : startRefusal d′ place ≡ 0
-  unfolding startRefusal
-  start-passes =
-      let begin = hold-split (numberRules d e) (afterNumber f d e place) rows .1 in
-      let word : within 1 (d′ .reclen) (signedOf w32 (place .word .0)) ≡ true = rw (t .reclen) (begin .1 .0) in
-      rw (begin .0, word, le-leb (startOf d′ place + 11) (freeOf d′) (omega (arith, start-there, t .free, opened .nword-low, opened .ends)))
-
-  head-passes : headRefusal g d′ start e ≡ 0
-  unfolding headRefusal
-  head-passes =
-      let begin = hold-split (numberRules d e) (afterNumber f d e place) rows .1 in
-      let head = hold-split (startRules d place) (afterStart f d e place) begin .1 in
-      rw (
-        code-same g f start words entry-bytes (omega arith),
-        nsec-there,
-        nword-there,
-        xnum-there,
-        head .0,
-        head .1 .0,
-        head .1 .1 .0,
-        le-leb (start + nword) (freeOf d′) (omega (arith, t .free, opened .ends)),
-        head .1 .1 .1 .1 .0,
-      )
-
-  content-passes : contentRefusal g start nsec nword (dataOf f start) ≡ 0
-  unfolding contentRefusal
-  content-passes =
-      let begin = hold-split (numberRules d e) (afterNumber f d e place) rows .1 in
-      let head = hold-split (startRules d place) (afterStart f d e place) begin .1 in
-      let content = hold-split (headRules f d start e) (contents f d place) head .1 in
-      content-same g f start words entry-bytes nsec (omega arith) nword (dataOf f start) ∙ refusal-none (contents f d place) content
-
-  -- the entry opens there too
+  -- the entry opens there too: each rule holds as it does here
   pub opens-there : entryRefusal g d′ addresses′ e ≡ 0
+  unfolding entryRefusal
   opens-there =
-      entry-content g d′ addresses′ e number-there place (sym place-there) 0 start-passes
-      (rw start-there head-passes) (rw (start-there, nsec-there, nword-there, data-there) content-passes)
+      let number = hold-split (numberRules d e) (afterNumber f d e place) (all-hold (entryRules f d e place) (omega arith) (t .opens)) in
+      let begin = hold-split (startRules d place) (afterStart f d e place) (number .1) in
+      let head = hold-split (headRules f d start e) (contents f d place) (begin .1) in
+      let more = le-leb (e .0) (entriesBefore (d′ .xnext)) (omega (arith, opened .number-high, t .entries)) in
+      let word : within 1 (d′ .reclen) (signedOf w32 (place .word .0)) ≡ true = rw (t .reclen) (begin .0 .1 .0) in
+      let described = le-leb (start + 11) (freeOf d′) (omega (arith, t .free, opened .nword-low, opened .ends)) in
+      let ends = le-leb (start + nword) (freeOf d′) (omega (arith, t .free, opened .ends)) in
+      let code = code-same g f start words entry-bytes (omega arith) in
+      let xnum = word8-same g f start words entry-bytes xnumWord (omega arith) (omega arith) in
+      let content = content-same g f start words entry-bytes nsec (omega arith) nword (dataOf f start) in
+      rw (place-there, start-there, code, nsec-there, nword-there, xnum, data-there)
+      (rw (number .0 .0, more, begin .0 .0, word, described, head .0 .0, head .0 .1 .0, head .0 .1 .1 .0, ends, head .0 .1 .1 .1 .1 .0)
+      (ap refusalIn content ∙ refusal-none (contents f d place) (head .1)))
 
   -- with the same numbers
   pub entered-there : enteredOf g d′ addresses′ e ≡ enteredOf f d addresses e
   entered-there =
+      let version = ap (signedOf w32) (word4-same g f start words entry-bytes versionWord (omega arith) (omega arith)) in
       entered-numbers g d′ addresses′ e opens-there
-      ∙ rw (place-there, start-there, version-there, nsec-there, nword-there, data-there) (sym (entered-numbers f d addresses e (t .opens)))
+      ∙ rw (place-there, start-there, version, nsec-there, nword-there, data-there) (sym (entered-numbers f d addresses e (t .opens)))
 
   -- its tables
   pub open-there : openedAs g (enteredOf g d′ addresses′ e) ≡ openedAs f (enteredOf f d addresses e)
@@ -156,19 +126,18 @@ module _ (f g : List ℕ) (d d′ : DescriptorNumbers) (addresses addresses′ :
   unfolding indexPart
   index-place = rw (entered-there, entered-numbers f d addresses e (t .opens), t .slot, t .lind)
 
+  -- of a section
   pub section-place : (identifier : ℤ) → sectionPart g d′ addresses′ e identifier ≡ sectionPart f d addresses e identifier
   unfolding sectionPart
   section-place identifier =
+      let i = sectionNamed f start identifier 0 nsec in
       rw (entered-there, entered-numbers f d addresses e (t .opens), named-same g f start words entry-bytes nsec (omega arith) identifier 0 nsec (omega arith))
-      (by (ltb named nsec) refl)
-    where
-      named : ℕ
-      named = sectionNamed f start identifier 0 nsec
+      (elim (dichotomy (ltb i nsec)) [
+        | inl q ↦ rw q
+        | inr q ↦ rw (q, section-same g f start words entry-bytes nsec (omega arith) i (ltb-true i nsec q))
+      ])
 
-      by : (b : Bool) → ltb named nsec ≡ b → cond b (pieceFrom start (sectionOf g start nsec named)) (noPart 20) ≡ cond b (pieceFrom start (sectionOf f start nsec named)) (noPart 20)
-      by true q = rw (section-same g f start words entry-bytes nsec (omega arith) named (ltb-true named nsec q))
-      by false q = refl
-
+  -- of its data
   pub data-place : dataPart g d′ addresses′ e ≡ dataPart f d addresses e
   unfolding dataPart
   data-place = rw (entered-there, entered-numbers f d addresses e (t .opens))

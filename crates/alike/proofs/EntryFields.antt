@@ -4,7 +4,6 @@ use mathlib.Core.Path.{_≡_, refl, sym, ap, _∙_}
 use mathlib.Core.List.{List}
 use native.Mathlib.Omega.{arith}
 use lib.IntN.{ℤ, pos}
-use lib.ListN.{length}
 use mir.Syntax.{w32}
 use Rattle.image.specs.Image.{part}
 use Rattle.image.proofs.Part.{part-part}
@@ -13,11 +12,11 @@ use Rattle.words.proofs.Access.{bits-alike}
 use Rattle.words.proofs.Table.{places-same}
 use Rattle.geometry.specs.declared.units.EntryAddress.{EntryAddress}
 use Rattle.layout.specs.EntryWords.{adataWord, ldataWord, identifierWord, lengthWord, addressWord, descriptorWords}
-use Rattle.entry.specs.declared.contents.Piece.{Piece}
-use Rattle.entry.specs.EntryDescriptor.{wordOffset, word4, word8, entryCodeOf, identifierAt, sectionOf, dataOf}
-use Rattle.entry.specs.Contents.{sectionsWithin, apartFrom, sectionsApart, dataApart}
-use Rattle.entry.specs.Tables.{sectionIdentifiers, sectionLengths, sectionAddresses, sectionsOf, sectionNamed}
-use Rattle.entry.specs.Opening.{contentRefusal}
+use Rattle.pieces.specs.declared.contents.Piece.{Piece}
+use Rattle.pieces.specs.EntryDescriptor.{wordOffset, word4, word8, entryCodeOf, identifierAt, sectionOf, dataOf}
+use Rattle.pieces.specs.Contents.{sectionsWithin, apartFrom, sectionsApart, dataApart}
+use Rattle.pieces.specs.Tables.{sectionIdentifiers, sectionLengths, sectionAddresses, sectionsOf, sectionNamed}
+use Rattle.entry.specs.Opening.{contentRules}
 
 module _ (f g : List ℕ) (start words : ℕ) (same : part f (4 * start) (4 * words) ≡ part g (4 * start) (4 * words)) where
   -- bytes of the entry
@@ -32,6 +31,7 @@ module _ (f g : List ℕ) (start words : ℕ) (same : part f (4 * start) (4 * wo
   unfolding word4
   word4-same a l h = bits-alike integer4 f g (wordOffset start a) (wordOffset start a) (bytes-same (wordOffset start a) 4 (omega arith) (omega arith))
 
+  -- and so is an Integer*8
   pub word8-same : (a : EntryAddress) → 1 ≤ a .0 → a .0 + 1 ≤ words → word8 f start a ≡ word8 g start a
   unfolding word8
   word8-same a l h = bits-alike integer8 f g (wordOffset start a) (wordOffset start a) (bytes-same (wordOffset start a) 8 (omega arith) (omega arith))
@@ -44,22 +44,17 @@ module _ (f g : List ℕ) (start words : ℕ) (same : part f (4 * start) (4 * wo
   -- where its data stands
   pub data-same : 11 ≤ words → dataOf f start ≡ dataOf g start
   unfolding dataOf
-  data-same h =
-      let adata = word8-same adataWord (omega arith) (omega arith) in
-      let ldata = word8-same ldataWord (omega arith) (omega arith) in
-      λ i. record { address = record { 0 = adata i }; words = ldata i }
+  data-same h = rw (word8-same adataWord (omega arith) (omega arith), word8-same ldataWord (omega arith) (omega arith))
 
   module _ (nsec : ℕ) (l : descriptorWords nsec ≤ words) where
     -- a section's identifier, and where it stands
     pub identifier-same : (i : ℕ) → i < nsec → identifierAt f start i ≡ identifierAt g start i
     identifier-same i h = ap (signedOf w32) (word4-same (identifierWord i) (omega arith) (omega arith))
 
+    -- so each section is the same
     pub section-same : (i : ℕ) → i < nsec → sectionOf f start nsec i ≡ sectionOf g start nsec i
     unfolding sectionOf
-    section-same i h =
-        let address = word8-same (addressWord nsec i) (omega arith) (omega arith) in
-        let length = word8-same (lengthWord nsec i) (omega arith) (omega arith) in
-        λ j. record { address = record { 0 = address j }; words = length j }
+    section-same i h = rw (word8-same (addressWord nsec i) (omega arith) (omega arith), word8-same (lengthWord nsec i) (omega arith) (omega arith))
 
     within-same : (nword k : ℕ) → k ≤ nsec → sectionsWithin f start nsec nword k ≡ sectionsWithin g start nsec nword k
     unfolding sectionsWithin
@@ -76,14 +71,10 @@ module _ (f g : List ℕ) (start words : ℕ) (same : part f (4 * start) (4 * wo
     apart-same zero h = refl
     apart-same (suc k) h = rw (apart-same k (omega arith), section-same k (omega arith), from-same (sectionOf g start nsec k) k (omega arith))
 
-    data-apart-same : (p : Piece) → dataApart f start nsec p ≡ dataApart g start nsec p
+    -- the rules 17 to 19 are the same
+    pub content-same : (nword : ℕ) (p : Piece) → contentRules f start nsec nword p ≡ contentRules g start nsec nword p
     unfolding dataApart
-    data-apart-same p = rw (from-same p nsec (omega arith))
-
-    -- the rules 17 to 19 give the same refusal
-    pub content-same : (nword : ℕ) (p : Piece) → contentRefusal f start nsec nword p ≡ contentRefusal g start nsec nword p
-    unfolding contentRefusal
-    content-same nword p = rw (within-same nword nsec (omega arith), apart-same nsec (omega arith), data-apart-same p)
+    content-same nword p = rw (within-same nword nsec (omega arith), apart-same nsec (omega arith), from-same p nsec (omega arith))
 
     -- the tables are the same
     pub tables-same : sectionsOf f start nsec ≡ sectionsOf g start nsec

@@ -1,11 +1,13 @@
 -- Two files with the same first record, of which the second is as long or longer, validate alike. Assumes nothing.
-use Prim.Native.Nat.{ℕ, _+_, _*_, _-_, _%_, _^_, _≤_}
-use mathlib.Core.Path.{_≡_, sym, ap, _∙_}
+use Prim.Native.Nat.{ℕ, _+_, _*_, _-_, _%_, _^_, _≤_, _<_}
+use mathlib.Core.Path.{_≡_, ap, _∙_}
+use mathlib.Core.Bool.{true}
 use mathlib.Core.List.{List}
 use native.Mathlib.Omega.{arith}
+use borrow.Author.Tests.{ltb-true}
+use lib.Dec.{ltb}
 use lib.ListN.{length}
 use Rattle.image.specs.Image.{part}
-use Rattle.image.proofs.Part.{part-part}
 use Rattle.words.specs.Word.{integer4, integer8}
 use Rattle.words.specs.Code.{sameBytes}
 use Rattle.words.proofs.Access.{bits-alike}
@@ -14,13 +16,14 @@ use Rattle.geometry.specs.declared.units.RecordNumber.{RecordNumber}
 use Rattle.geometry.specs.declared.units.WordNumber.{WordNumber}
 use Rattle.descriptor.specs.declared.numbers.DescriptorNumbers.{DescriptorNumbers}
 use Rattle.descriptor.specs.declared.validating.Validated.the-variants.{Numbers}
-use Rattle.layout.specs.FirstRecordWords.{fileCode, reclenWord, kindWord, vindWord, lindWord, flagsWord, xnextWord, nextrecWord, nextwordWord, lex1Word, nexWord, gexWord, aexWord}
+use Rattle.layout.specs.FirstRecordWords.{fileCode, aexWord}
 use Rattle.descriptor.specs.FirstRecord.{fileCodeOf, field4, field8, numbersOf, aexAt, addressesOf}
 use Rattle.descriptor.specs.Rules.{fileRefusal}
 use Rattle.descriptor.specs.Answers.{validationOf}
 use Rattle.descriptor.specs.Bounds.{Admitted}
 use Rattle.descriptor.proofs.Answered.{file-passed, file-admitted}
 use Rattle.descriptor.proofs.Admitting.{apt, validated}
+use Rattle.alike.proofs.EntryFields.{bytes-same}
 
 module _ (f g : List ℕ) (z : fileRefusal f ≡ 0) (first : part g 0 (4 * numbersOf f .reclen) ≡ part f 0 (4 * numbersOf f .reclen)) where
   abbrev d : DescriptorNumbers
@@ -30,55 +33,39 @@ module _ (f g : List ℕ) (z : fileRefusal f ≡ 0) (first : part g 0 (4 * numbe
   admits = file-admitted f z
 
   bytes-alike : (at n : ℕ) → at + n ≤ 4 * d .reclen → part g at n ≡ part f at n
-  bytes-alike at n h =
-      sym (part-part g 0 (4 * d .reclen) at n at h (omega arith))
-      ∙ ap (λ (xs : List ℕ). part xs at n) first
-      ∙ part-part f 0 (4 * d .reclen) at n at h (omega arith)
-
-  code-alike : fileCodeOf g ≡ fileCodeOf f
-  unfolding fileCodeOf
-  code-alike = bytes-alike (4 * (1 - 1)) 4 (omega (arith, admits .settled .reclen-low))
+  bytes-alike at n h = bytes-same g f 0 (d .reclen) first at n (omega arith) (omega arith)
 
   -- a field in the first 16 words, and one within the record
-  field4-alike : (w : WordNumber) → 1 ≤ w .0 → w .0 ≤ 16 → field4 g w ≡ field4 f w
+  field4-alike : (w : WordNumber) → ltb (w .0 - 1) 16 ≡ true → field4 g w ≡ field4 f w
   unfolding field4
-  field4-alike w l h = bits-alike integer4 g f (4 * (w .0 - 1)) (4 * (w .0 - 1)) (bytes-alike (4 * (w .0 - 1)) 4 (omega (arith, admits .settled .reclen-low)))
+  field4-alike w h = bits-alike integer4 g f (4 * (w .0 - 1)) (4 * (w .0 - 1)) (bytes-alike (4 * (w .0 - 1)) 4 (omega (arith, ltb-true, admits .settled .reclen-low)))
 
-  field8-alike : (w : WordNumber) → 1 ≤ w .0 → w .0 + 1 ≤ d .reclen → field8 g w ≡ field8 f w
+  field8-alike : (w : WordNumber) → w .0 - 1 + 1 < d .reclen → field8 g w ≡ field8 f w
   unfolding field8
-  field8-alike w l h = bits-alike integer8 g f (4 * (w .0 - 1)) (4 * (w .0 - 1)) (bytes-alike (4 * (w .0 - 1)) 8 (omega arith))
+  field8-alike w h = bits-alike integer8 g f (4 * (w .0 - 1)) (4 * (w .0 - 1)) (bytes-alike (4 * (w .0 - 1)) 8 (omega arith))
+
+  head8-alike : (w : WordNumber) → ltb (w .0 - 1) 15 ≡ true → field8 g w ≡ field8 f w
+  head8-alike w h = field8-alike w (omega (arith, ltb-true, admits .settled .reclen-low))
 
   numbers-alike : numbersOf g ≡ d
   unfolding numbersOf
-  numbers-alike =
-      let low = admits .settled .reclen-low in
-      λ i. record {
-        reclen = field4-alike reclenWord (omega arith) (omega arith) i;
-        kind = field4-alike kindWord (omega arith) (omega arith) i;
-        vind = field4-alike vindWord (omega arith) (omega arith) i;
-        lind = field4-alike lindWord (omega arith) (omega arith) i;
-        flags = field4-alike flagsWord (omega arith) (omega arith) i;
-        xnext = record { 0 = field8-alike xnextWord (omega arith) (omega arith) i };
-        nextrec = record { 0 = field8-alike nextrecWord (omega arith) (omega arith) i };
-        nextword = record { 0 = field4-alike nextwordWord (omega arith) (omega arith) i };
-        lex1 = field4-alike lex1Word (omega arith) (omega arith) i;
-        nex = field4-alike nexWord (omega arith) (omega arith) i;
-        gex = field4-alike gexWord (omega arith) (omega arith) i;
-      }
+  numbers-alike = simp (field4-alike, head8-alike)
 
   addresses-alike : addressesOf g (d .nex) ≡ addressesOf f (d .nex)
   unfolding addressesOf
   addresses-alike =
       places-same 16 (d .nex) (aexAt g) (aexAt f) (record { 0 = 0 })
-      (λ i h. ap {B = RecordNumber} (λ (n : ℕ). record { 0 = n }) (field8-alike (aexWord i) (omega arith) (omega (arith, admits .settled .nex-room))))
+      (λ i h. ap {B = RecordNumber} (λ (n : ℕ). record { 0 = n }) (field8-alike (aexWord i) (omega (arith, admits .settled .nex-room))))
 
   -- the second file is admitted, with the numbers and addresses of the first
   pub first-alike : length f ≤ length g → length g ≤ 2 ^ 30 → length g % (4 * d .reclen) ≡ 0
       → validationOf g ≡ record { refusal = 0; numbers = Numbers d; addresses = addressesOf f (d .nex) }
+  unfolding fileCodeOf
   first-alike long high whole =
       let p = file-passed f z in
+      let code = bytes-alike (4 * (1 - 1)) 4 (omega (arith, admits .settled .reclen-low)) in
       validated g d (addressesOf f (d .nex)) numbers-alike addresses-alike (omega (arith, p .long))
-      (ap (λ (l : List ℕ). sameBytes l fileCode) code-alike ∙ p .code)
+      (ap (λ (l : List ℕ). sameBytes l fileCode) code ∙ p .code)
       (apt (length f) d (p .settings))
       (record {
         settled = admits .settled;

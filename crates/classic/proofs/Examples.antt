@@ -4,8 +4,8 @@ use mathlib.Core.List.{[], _∷_}
 use lib.IntN.{pos, negsuc}
 use lib.ListN.{replicate}
 use Rattle.descriptor.specs.Answers.{noValidation}
+use Rattle.pieces.specs.Tables.{noSections}
 use Rattle.entry.specs.declared.answers.Open.the-variants.{Numbers, Refused}
-use Rattle.entry.specs.Answers.{noSections}
 use Rattle.classic.specs.Answers.{recordNumbers, entryAddresses, descriptorFor, entryFor, partFor, checkedFor}
 
 -- bytes 340 to 348 of a file: start 340, length 8

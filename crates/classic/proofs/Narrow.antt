@@ -17,7 +17,7 @@ use Rattle.descriptor.proofs.Answered.{file-passed, file-admitted, answer-numbe
 use Rattle.entry.specs.Opening.{entryRefusal}
 use Rattle.entry.specs.Answers.{openOf, openCase, openedAs}
 use Rattle.entry.proofs.Entering.{entry-opens, entered-numbers, entered-refused}
-use Rattle.entry.proofs.Handing.{open-refused, open-numbers}
+use Rattle.entry.proofs.Opened.{open-refused, open-numbers}
 use Rattle.outcome.proofs.Either.{either}
 use Rattle.classic.specs.Bounds.{Narrow, Slim}
 

@@ -1,6 +1,7 @@
 -- The answers of the crates below as C has them (include/classic.h): an enum becomes a refusal field, a unit its number, a part its start and length.
 use Prim.Native.Nat.{ℕ, _-_}
 use mathlib.Core.List.{List, map}
+use Rattle.outcome.specs.Outcome.{AnswersAndLeaves}
 use Rattle.geometry.specs.declared.units.RecordNumber.{RecordNumber}
 use Rattle.geometry.specs.declared.units.EntryAddress.{EntryAddress}
 use Rattle.descriptor.specs.declared.validating.Validation.{Validation}
@@ -8,13 +9,15 @@ use Rattle.descriptor.specs.declared.validating.ValidatedCase.{ValidatedCase}
 use Rattle.descriptor.specs.declared.extensions.Extension.{Extension}
 use Rattle.descriptor.specs.declared.numbers.Settings.{Settings}
 use Rattle.descriptor.specs.Answers.{validatedCase}
-use Rattle.entry.specs.declared.tables.Sections.{Sections}
+use Rattle.pieces.specs.declared.tables.Sections.{Sections}
 use Rattle.entry.specs.declared.answers.OpenCase.{OpenCase}
 use Rattle.entry.specs.declared.answers.Opened.{Opened}
-use Rattle.entry.specs.declared.answers.PartPlace.{PartPlace}
 use Rattle.entry.specs.Answers.{openCase}
+use Rattle.handing.specs.declared.place.PartPlace.{PartPlace}
 use Rattle.order.specs.declared.answers.Checked.{Checked}
 use Rattle.writer.specs.declared.appending.Appended.{Appended}
+use Rattle.storing.specs.Handed.{Handed}
+use Rattle.writer.specs.Answers.{appendOf, fileAfter}
 use Rattle.classic.specs.declared.answers.ClassicDescriptor.{ClassicDescriptor}
 use Rattle.classic.specs.declared.answers.ClassicExtension.{ClassicExtension}
 use Rattle.classic.specs.declared.answers.ClassicEntry.{ClassicEntry}
@@ -23,10 +26,11 @@ use Rattle.classic.specs.declared.answers.ClassicChecked.{ClassicChecked
 use Rattle.classic.specs.declared.answers.ClassicAppended.{ClassicAppended}
 use Rattle.classic.specs.declared.answers.ClassicSettings.{ClassicSettings}
 
--- the numbers of a table of records, and of a table of addresses
+-- the numbers of a table of records
 unfoldable pub recordNumbers : List RecordNumber → List ℕ
 recordNumbers table = map (λ (r : RecordNumber). r .0) table
 
+-- and of a table of addresses
 unfoldable pub entryAddresses : List EntryAddress → List ℕ
 entryAddresses table = map (λ (a : EntryAddress). a .0) table
 
@@ -48,6 +52,7 @@ descriptorFrom case addresses = record {
   aex = recordNumbers addresses;
 }
 
+-- a validation: its case, and its addresses
 abbrev pub descriptorFor : Validation → ClassicDescriptor
 descriptorFor v = descriptorFrom (validatedCase (v .numbers)) (v .addresses)
 
@@ -71,6 +76,7 @@ entryFrom case sections = record {
   addresses = entryAddresses (sections .addresses);
 }
 
+-- an open: its case, and its tables
 abbrev pub entryFor : Opened → ClassicEntry
 entryFor x = entryFrom (openCase (x .answer)) (x .sections)
 
@@ -85,6 +91,10 @@ checkedFor x = record { entry = x .entry .0; refusal = x .refusal }
 -- an append, field by field
 abbrev pub appendedFor : Appended → ClassicAppended
 appendedFor x = record { refusal = x .refusal; number = x .number .0 }
+
+-- what `classic_append` promises: the answer of the append field by field, and the file after it
+abbrev pub AppendsForC : List ℕ → Handed → ClassicAppended → List ℕ → Type 0
+AppendsForC file h answer after = AnswersAndLeaves (appendedFor (appendOf file h)) (fileAfter file h) answer after
 
 -- the settings that C hands in, field by field
 abbrev pub settingsFrom : ClassicSettings → Settings

@@ -1,10 +1,8 @@
 // Appending an entry, for C.
 use super::answers::ClassicAppended;
 use writer::append;
-ghost use Rattle.outcome.specs.Outcome.{AnswersAndLeaves};
-ghost use Rattle.writer.specs.Handed.{handedIn};
-ghost use Rattle.writer.specs.Answers.{appendOf, fileAfter};
-ghost use Rattle.classic.specs.Answers.{appendedFor};
+ghost use Rattle.storing.specs.Handed.{handed};
+ghost use Rattle.classic.specs.Answers.{AppendsForC};
 
 // Appends an entry: its version, the application's index words, its sections by identifiers, lengths
 // and bytes one after another, and its data. Answers its number, or the refusal.
@@ -18,7 +16,7 @@ pub extern "C" fn classic_append(
     sections: &[u8],
     values: &[u8],
 ) -> ClassicAppended
-    ensures { λ r. ⌜ AnswersAndLeaves (appendedFor (appendOf (now (file .entry)) (handedIn version (now (index .entry)) (now (ids .entry)) (now (lengths .entry)) (now (sections .entry)) (now (values .entry))))) (fileAfter (now (file .entry)) (handedIn version (now (index .entry)) (now (ids .entry)) (now (lengths .entry)) (now (sections .entry)) (now (values .entry)))) r (now (file .exit)) ⌝ }
+    ensures { λ r. ⌜ AppendsForC (now (file .entry)) (handed version index ids lengths sections values) r (now (file .exit)) ⌝ }
 {
     let appended = append(file, version, index, ids, lengths, sections, values);
     ClassicAppended {

@@ -2,10 +2,10 @@
 use super::answers::ClassicEntry;
 use super::tables::entry_addresses;
 use entry::OpenCase;
-use entry::Sections;
 use entry::open_case;
 use entry::open_entry;
 use geometry::EntryNumber;
+use pieces::Sections;
 ghost use Rattle.outcome.specs.Outcome.{Answers};
 ghost use Rattle.entry.specs.Answers.{openOf};
 ghost use Rattle.classic.specs.Answers.{entryFrom, entryFor};

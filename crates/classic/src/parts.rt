@@ -1,13 +1,13 @@
 // An entry's index words, sections and data, for C: where each stands in the lent file.
 use super::answers::ClassicPart;
-use entry::PartPlace;
-use entry::data_array_place;
-use entry::index_words_place;
-use entry::section_place;
 use geometry::EntryNumber;
+use handing::PartPlace;
+use handing::data_array_place;
+use handing::index_words_place;
+use handing::section_place;
 ghost use Prim.Native.Nat.{_≤_};
 ghost use Rattle.outcome.specs.Outcome.{Answers};
-ghost use Rattle.entry.specs.Answers.{indexWordsOf, sectionWordsOf, dataWordsOf};
+ghost use Rattle.handing.specs.Parts.{indexWordsOf, sectionWordsOf, dataWordsOf};
 ghost use Rattle.classic.specs.Answers.{partFor};
 
 // A part by its start and length.

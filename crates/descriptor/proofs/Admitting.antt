@@ -1,10 +1,10 @@
 -- Admitted numbers break no rule, so a file that holds them validates with them. Assumes nothing.
-use Prim.Native.Nat.{ℕ, _+_, _*_, _-_, _/_, _%_, _^_, _≤_, _<_}
+use Prim.Native.Nat.{ℕ, _+_, _*_, _/_, _%_, _^_, _≤_, _<_}
 use mathlib.Core.Path.{_≡_, _∙_}
 use mathlib.Core.Bool.{true}
 use mathlib.Core.List.{List}
 use native.Mathlib.Omega.{arith}
-use native.Mathlib.Nat.{mul-le-mul-right}
+use borrow.Author.Needs.{needs}
 use borrow.Author.Tests.{le-leb, eq-eqb}
 use lib.ListN.{length}
 use mir.Syntax.{w32}
@@ -13,22 +13,22 @@ use Rattle.words.specs.Range.{within, atLeast}
 use Rattle.words.specs.Code.{sameBytes}
 use Rattle.words.proofs.Ranges.{within-row, atLeast-row}
 use Rattle.geometry.specs.declared.units.RecordNumber.{RecordNumber}
-use Rattle.geometry.specs.Units.{positionOf, entriesBefore}
+use Rattle.geometry.specs.Units.{entriesBefore}
 use Rattle.geometry.proofs.Capacities.{total-limit}
 use Rattle.descriptor.specs.declared.numbers.DescriptorNumbers.{DescriptorNumbers}
 use Rattle.descriptor.specs.declared.validating.Validated.the-variants.{Numbers}
 use Rattle.layout.specs.FirstRecordWords.{fileCode}
 use Rattle.descriptor.specs.FirstRecord.{fileCodeOf, numbersOf, addressesOf, mexOf, growthIn, freeOf}
-use Rattle.descriptor.specs.Rules.{settingRefusal, fillingRefusal, fileRefusal}
+use Rattle.descriptor.specs.Rules.{settingRefusal, fillingRefusal}
 use Rattle.descriptor.specs.Bounds.{Admitted}
 use Rattle.descriptor.specs.Answers.{validationOf}
 use Rattle.descriptor.proofs.Fitting.{fit-reach}
-use Rattle.descriptor.proofs.Passed.{setting-rows}
+use Rattle.descriptor.proofs.Passed.{setting-rows, place-behind}
 use Rattle.descriptor.proofs.Answered.{file-rest, answer-numbers}
 
 mex-reach : (reclen nex : ℕ) → nex ≤ 16 → 14 + 2 * nex ≤ reclen → (nex ≤ mexOf reclen) × (mexOf reclen < 2 ^ 31)
 unfolding mexOf
-mex-reach reclen nex h l = (omega arith, omega arith)
+mex-reach reclen nex h l = omega arith
 
 -- the three settings that nothing else depends on
 pub record Apt (d : DescriptorNumbers) : Type 0 where
@@ -88,27 +88,16 @@ module _ (bytes : ℕ) (d : DescriptorNumbers) (addresses : List RecordNumber) (
 
   -- the next free position stands behind the first record
   pub first-free : d .reclen ≤ freeOf d
-  unfolding positionOf
-  first-free =
-      let some : 1 ≤ d .nextrec .0 - 1 = omega (arith, a .free .record-low) in
-      omega (arith, mul-le-mul-right (d .reclen) some)
+  first-free = place-behind (d .reclen) (d .nextrec) (d .nextword) (a .free .record-low)
 
 -- the settings that rules 5, 6 and 7 ask for, from a file that passed them
 pub apt : (bytes : ℕ) (d : DescriptorNumbers) → settingRefusal bytes d ≡ 0 → Apt d
-apt bytes d e =
-    let a = setting-rows bytes d e in
-    record { kind = a .kind; vind = a .vind; flags = a .flags }
+apt bytes d e = let a = setting-rows bytes d e in search needs
 
--- a file with the code whose numbers and addresses are admitted has no refusal
-none-refused : (file : List ℕ) (d : DescriptorNumbers) (addresses : List RecordNumber) → numbersOf file ≡ d → addressesOf file (d .nex) ≡ addresses
-    → 64 ≤ length file → sameBytes (fileCodeOf file) fileCode ≡ true → Apt d → Admitted (length file) d addresses → fileRefusal file ≡ 0
-none-refused file d addresses e f l c t a =
-    file-rest file (le-leb 64 (length file) l) c
-    ∙ rw (e, f, setting-none (length file) d addresses a t, filling-none (length file) d addresses a)
-
--- so validating gives them
+-- so validating gives them, where a file with the code has them
 pub validated : (file : List ℕ) (d : DescriptorNumbers) (addresses : List RecordNumber) → numbersOf file ≡ d → addressesOf file (d .nex) ≡ addresses
     → 64 ≤ length file → sameBytes (fileCodeOf file) fileCode ≡ true → Apt d → Admitted (length file) d addresses
     → validationOf file ≡ record { refusal = 0; numbers = Numbers d; addresses = addresses }
 validated file d addresses e f l c t a =
-    answer-numbers file (none-refused file d addresses e f l c t a) ∙ rw (e, f)
+    let none = rw (e, f, setting-none (length file) d addresses a t, filling-none (length file) d addresses a) at (file-rest file (le-leb 64 (length file) l) c) in
+    answer-numbers file none ∙ rw (e, f)

@@ -1,10 +1,11 @@
 -- What a file's refusal is made of, and what the answer of `validate` tells: the numbers that it gives are the file's, and admitted. Assumes nothing.
+use native.Mathlib.Decide.{ℕ-discrete}
 use Prim.Native.Nat.{ℕ, _≤_}
-use mathlib.Core.Path.{_≡_, refl, sym, ap, _∙_}
-use mathlib.Core.Bool.{Bool, true, false, cond}
+use mathlib.Core.Path.{_≡_, refl, ap, _∙_}
+use mathlib.Core.Bool.{true, false, cond}
 use mathlib.Core.List.{List}
 use native.Mathlib.Omega.{arith}
-use borrow.Author.Tests.{leb-true, eqb-true}
+use borrow.Author.Tests.{leb-true, ne-eqb}
 use lib.Dec.{leb, eqb}
 use lib.ListN.{length}
 use Rattle.words.specs.Code.{sameBytes}
@@ -22,12 +23,6 @@ use Rattle.descriptor.specs.Bounds.{Admitted}
 use Rattle.descriptor.proofs.Refusals.{refusal-append, refusal-none, all-hold, hold-split}
 use Rattle.descriptor.proofs.Passed.{admitted}
 
-same-numbers : {m n : DescriptorNumbers} → Numbers m ≡ Numbers n → m ≡ n
-same-numbers e = cc
-
-not-numbers : {n : DescriptorNumbers} {k : ℕ} → Numbers n ≡ Refused k → ⊥
-not-numbers e = let z : _≡_ {A = ℕ} 0 1 = cc in omega arith
-
 -- the number of a case that is a refusal
 pub refusal-told : {case : Validated} {n r : ℕ} → r ≡ validatedCase case .refusal → case ≡ Refused n → r ≡ n
 refusal-told e t = e ∙ ap (λ (case : Validated). validatedCase case .refusal) t
@@ -35,16 +30,6 @@ refusal-told e t = e ∙ ap (λ (case : Validated). validatedCase case .refusal)
 module _ (file : List ℕ) where
   abbrev d : DescriptorNumbers
   d = numbersOf file
-
-  -- a file of too few bytes is refused by 1
-  pub file-short : leb 64 (length file) ≡ false → fileRefusal file ≡ 1
-  unfolding fileRefusal
-  file-short h = rw h
-
-  -- a file of enough bytes with another code is refused by 2
-  pub file-code : leb 64 (length file) ≡ true → sameBytes (fileCodeOf file) fileCode ≡ false → fileRefusal file ≡ 2
-  unfolding fileRefusal
-  file-code h c = rw (h, c)
 
   -- behind the code the settings count, and then the filling
   pub file-rest : leb 64 (length file) ≡ true → sameBytes (fileCodeOf file) fileCode ≡ true
@@ -67,23 +52,12 @@ module _ (file : List ℕ) where
       let filling = fillingRules (length file) d (addressesOf file (d .nex)) in
       let a = all-hold (fileRules file d (addressesOf file (d .nex))) (omega arith) e in
       let b = hold-split settings filling (a .1 .1) in
-      record {
-        long = leb-true 64 (length file) (a .0);
-        code = a .1 .0;
-        settings = refusal-none settings (b .0);
-        filling = refusal-none filling (b .1);
-      }
-
-  -- the table has its 16 places
-  pub length-addresses : (nex : ℕ) → length (addressesOf file nex) ≡ 16
-  unfolding addressesOf
-  length-addresses nex = length-places 16 nex _ _
+      record { long = leb-true 64 (length file) (a .0); code = a .1 .0; settings = refusal-none settings (b .0); filling = refusal-none filling (b .1) }
 
   -- so its numbers and addresses are admitted
   pub file-admitted : fileRefusal file ≡ 0 → Admitted (length file) d (addressesOf file (d .nex))
-  file-admitted e =
-      let p = file-passed e in
-      admitted (length file) d (addressesOf file (d .nex)) (length-addresses (d .nex)) (p .long) (p .settings) (p .filling)
+  unfolding addressesOf
+  file-admitted e = let p = file-passed e in admitted (length file) d (addressesOf file (d .nex)) (length-places 16 (d .nex) _ _) (p .long) (p .settings) (p .filling)
 
   -- a file that is not refused has its numbers and addresses
   pub answer-numbers : fileRefusal file ≡ 0 → validationOf file ≡ record { refusal = 0; numbers = Numbers d; addresses = addressesOf file (d .nex) }
@@ -104,16 +78,18 @@ module _ (file : List ℕ) where
 
   -- what a validation that gave numbers shows
   pub told : (v : Validation) (n : DescriptorNumbers) → v ≡ validationOf file → v .numbers ≡ Numbers n → Told v n
-  told v n e q = by (eqb (fileRefusal file) 0) refl
-    where
-      by : (b : Bool) → eqb (fileRefusal file) 0 ≡ b → Told v n
-      by true t =
-          let z = eqb-true (fileRefusal file) 0 t in
-          let w = e ∙ answer-numbers z in
-          let numbers : n ≡ d = same-numbers (sym q ∙ ap (λ (x : Validation). x .numbers) w) in
-          let addresses : v .addresses ≡ addressesOf file (d .nex) = ap (λ (x : Validation). x .addresses) w in
-          record { refusal = z; numbers = numbers; addresses = addresses; admitted = rw (numbers, addresses) (file-admitted z) }
-      by false t = absurd (not-numbers (sym q ∙ ap (λ (x : Validation). x .numbers) (e ∙ answer-refused (fileRefusal file) refl t)))
+  told v n e q =
+      elim (ℕ-discrete (fileRefusal file) 0) [
+        | yes z ↦
+            let w = e ∙ answer-numbers z in
+            let numbers : n ≡ d = cc in
+            let addresses : v .addresses ≡ addressesOf file (d .nex) = cc in
+            record { refusal = z; numbers = numbers; addresses = addresses; admitted = rw (numbers, addresses) (file-admitted z) }
+        | no z ↦
+            let w = e ∙ answer-refused (fileRefusal file) refl (ne-eqb (fileRefusal file) 0 z) in
+            let never : _≡_ {A = ℕ} 0 1 = cc in
+            absurd (omega arith)
+      ]
 
   -- an extension, by the validation's case
   pub extension-by : (k : ExtensionNumber) (v : Validation) (case : Validated) → v ≡ validationOf file → v .numbers ≡ case

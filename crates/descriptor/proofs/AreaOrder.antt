@@ -1,4 +1,5 @@
 -- Laws of the index areas: one area more, what holds of fewer, and the bounds that the rules leave. Assumes nothing.
+use native.Mathlib.Decide.{le-ind}
 use Prim.Native.Nat.{ℕ, zero, suc, _+_, _*_, _-_, _^_, _≤_, _<_}
 use mathlib.Core.Path.{_≡_, refl, ap}
 use mathlib.Core.Bool.{Bool, true}
@@ -13,6 +14,7 @@ use Rattle.words.specs.Range.{atLeast}
 use Rattle.words.proofs.Ranges.{atLeast-bounds}
 use Rattle.words.proofs.Runs.{Run, run-test}
 use Rattle.geometry.specs.declared.units.RecordNumber.{RecordNumber}
+use Rattle.geometry.specs.declared.growth.Growth.{Growth}
 use Rattle.geometry.specs.Units.{positionOf}
 use Rattle.geometry.specs.Growth.{capacityOf, Growing}
 use Rattle.geometry.specs.Area.{areaRecords}
@@ -88,18 +90,24 @@ growing d k s h = record {
   within = over-fewer (growthIn d) k (d .nex) h (s .within);
 }
 
+-- what the code asks before it counts the records of an extension in use
+module _ (d : DescriptorNumbers) (k : ℕ) (s : Settled d) (low : 1 ≤ k) (high : k ≤ d .nex) where
+  -- of its growth
+  pub capacity-asks : {g : Growth} → g ≡ growthIn d → (1 ≤ k) × (k ≤ 16) × Growing g (k - 1)
+  capacity-asks e = rw e (low, omega arith, growing d (k - 1) s (omega arith))
+
+  -- and of its capacity
+  pub area-asks : {c : ℕ} → c ≡ capacityOf (growthIn d) k → (c ≤ 16384) × (d .lind ≤ 256) × (1 ≤ d .reclen) × (d .reclen ≤ 4096)
+  area-asks e = let limit = capacity-limit (growthIn d) k (d .nex) low high (s .within) in omega arith
+
 -- ---- where the areas of an admitted file end
 
 module _ (bytes : ℕ) (d : DescriptorNumbers) (addresses : List RecordNumber) (a : Admitted bytes d addresses) where
-  after-plus : (k m : ℕ) → k + m ≤ d .nex → areaAfter d addresses k .0 ≤ areaAfter d addresses (k + m) .0
-  after-plus k zero h = let q : k + 0 ≡ k = omega arith in rw q (omega arith)
-  after-plus k (suc m) h =
-      let q : k + suc m ≡ k + m + 1 = omega arith in
-      rw q (omega (arith, after-plus k m (omega arith), after-next d addresses (k + m), area-low d addresses (k + m) (d .nex) (omega arith) (a .started) .0))
-
   -- more areas end no earlier
   pub after-le : (k n : ℕ) → k ≤ n → n ≤ d .nex → areaAfter d addresses k .0 ≤ areaAfter d addresses n .0
-  after-le k n h l = let q : k + (n - k) ≡ n = omega arith in (rw q at (after-plus k (n - k) (omega arith)))
+  after-le k n = le-ind (λ (m : ℕ). m ≤ d .nex → areaAfter d addresses k .0 ≤ areaAfter d addresses m .0) (λ l. omega arith) (λ m h f l.
+      let q : suc m ≡ m + 1 = omega arith in
+      rw q (omega (arith, f (omega arith), after-next d addresses m, area-low d addresses m (d .nex) l (a .started) .0))) n
 
   -- each area ends at or before the next free position
   pub area-ends : (k : ℕ) → k ≤ d .nex → (areaAfter d addresses k .0 - 1) * d .reclen ≤ freeOf d
@@ -109,31 +117,26 @@ module _ (bytes : ℕ) (d : DescriptorNumbers) (addresses : List RecordNumber) (
       let less : areaAfter d addresses k .0 - 1 ≤ areaAfter d addresses (d .nex) .0 - 1 = omega (arith, after-le k (d .nex) h (omega arith)) in
       omega (arith, mul-le-mul-right (d .reclen) less)
 
+  area-at : (k : ℕ) → 1 ≤ k → k ≤ d .nex
+      → (2 ≤ aexOf addresses k .0) × (areaAfter d addresses k .0 ≡ aexOf addresses k .0 + areaRecords (capacityOf (growthIn d) k) (d .lind) (d .reclen))
+  area-at k h l =
+      let q : k - 1 + 1 ≡ k = omega arith in
+      let next = rw q at (after-next d addresses (k - 1)) in
+      let low = rw q at (area-low d addresses (k - 1) (d .nex) (omega arith) (a .started)) in
+      (omega (arith, after-low d addresses (k - 1) (d .nex) (omega arith) (a .started)), next)
+
   -- an area from its first word to its last
   pub area-words : (k : ℕ) → 1 ≤ k → k ≤ d .nex
       → positionOf (d .reclen) (aexOf addresses k) (record { 0 = 1 }) + areaRecords (capacityOf (growthIn d) k) (d .lind) (d .reclen) * d .reclen
       ≡ (areaAfter d addresses k .0 - 1) * d .reclen
   unfolding positionOf
   area-words k h l =
-      let q : k - 1 + 1 ≡ k = omega arith in
-      let next = rw q at (after-next d addresses (k - 1)) in
-      let low = rw q at (area-low d addresses (k - 1) (d .nex) (omega arith) (a .started)) in
-      let two = after-low d addresses (k - 1) (d .nex) (omega arith) (a .started) in
-      rw next (by (aexOf addresses k .0) (areaRecords (capacityOf (growthIn d) k) (d .lind) (d .reclen)) (d .reclen) (omega arith))
-    where
-      by : (x r n : ℕ) → 1 ≤ x → (x - 1) * n + (1 - 1) + r * n ≡ (x + r - 1) * n
-      by zero r n m = absurd (omega arith)
-      by (suc x) r n m =
-          let p : suc x - 1 ≡ x = omega arith in
-          let t : suc x + r - 1 ≡ x + r = omega arith in
-          rw (p, t) (omega arith)
+      let at = area-at k h l in
+      let t : areaAfter d addresses k .0 - 1 ≡ aexOf addresses k .0 - 1 + areaRecords (capacityOf (growthIn d) k) (d .lind) (d .reclen) = omega arith in
+      rw t (omega arith)
 
   -- its first record
   pub area-first : (k : ℕ) → 1 ≤ k → k ≤ d .nex → (2 ≤ aexOf addresses k .0) × (aexOf addresses k .0 ≤ 2 ^ 32)
   area-first k h l =
-      let q : k - 1 + 1 ≡ k = omega arith in
-      let next = rw q at (after-next d addresses (k - 1)) in
-      let low = rw q at (area-low d addresses (k - 1) (d .nex) (omega arith) (a .started)) in
-      let two = after-low d addresses (k - 1) (d .nex) (omega arith) (a .started) in
       let some : 1 ≤ d .reclen = omega (arith, a .settled .reclen-low) in
-      (omega arith, omega (arith, area-ends k l, a .room, a .lent .high, mul-le-mul-left (areaAfter d addresses k .0 - 1) some))
+      omega (arith, area-at k h l, area-ends k l, a .room, a .lent .high, mul-le-mul-left (areaAfter d addresses k .0 - 1) some)

@@ -1,7 +1,7 @@
 -- What a table of rules means: a refusal is given exactly when a row of its number is broken and every row before it holds;
 -- and how a function that tests the rows in turn comes to it. Assumes nothing.
 use Prim.Native.Nat.{ℕ, zero, suc, _<_}
-use mathlib.Core.Path.{_≡_, refl}
+use mathlib.Core.Path.{_≡_, refl, sym}
 use mathlib.Core.Logic.{inl, inr}
 use mathlib.Core.Bool.{Bool, true, false, cond}
 use mathlib.Core.List.{List, [], _∷_, _++_}
@@ -92,3 +92,7 @@ past-none s = record { given = s; rows = tt }
 -- the place behind one test more
 abbrev pub next : {S : Type 0} {rules : S → List Rule} {k : ℕ} (p : Past rules k) → holdsAt k (rules (p .given)) ≡ true → Past rules (suc k)
 next {S} {rules} {k} p h = record { given = p .given; rows = hold-more k (rules (p .given)) (p .rows) h }
+
+-- a test that fails behind k others gives the refusal of its row, and 0 is given where none fails
+pub stop : {S : Type 0} {rules : S → List Rule} {k : ℕ} (p : Past rules k) → holdsAt k (rules (p .given)) ≡ false → numberAt k (rules (p .given)) ≡ refusalIn (rules (p .given))
+stop {S} {rules} {k} p h = sym (refusal-at k (rules (p .given)) (p .rows) h)

@@ -1,19 +1,12 @@
 -- From the way that a branch took to whether a rule holds. A call's result r is what its contract says, e. Assumes nothing.
-use mathlib.Core.Path.{_≡_, refl, sym, _∙_}
+use mathlib.Core.Path.{_≡_, sym, _∙_}
 use mathlib.Core.Bool.{Bool, true, false, not}
+use borrow.Author.Tests.{not-true, not-false}
 
 -- `if !f(..)` was left
 pub holds : {r e : Bool} → r ≡ e → not r ≡ false → e ≡ true
-holds {r} {e} p q = sym p ∙ by r q
-  where
-    by : (r : Bool) → not r ≡ false → r ≡ true
-    by true q = refl
-    by false q = sym q
+holds {r} p q = sym p ∙ not-false r q
 
 -- `if !f(..)` was taken
 pub broken : {r e : Bool} → r ≡ e → not r ≡ true → e ≡ false
-broken {r} {e} p q = sym p ∙ by r q
-  where
-    by : (r : Bool) → not r ≡ true → r ≡ false
-    by true q = sym q
-    by false q = refl
+broken {r} p q = sym p ∙ not-true r q

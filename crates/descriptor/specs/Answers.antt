@@ -62,5 +62,6 @@ extensionIn (Numbers d) addresses k =
     (record { refusal = 0; capacity = capacity; first = aexOf addresses (k .0); records = areaRecords capacity (d .lind) (d .reclen) })
     (noExtension 12)
 
+-- extension k of a file
 unfoldable pub extensionOf : List ℕ → ExtensionNumber → Extension
 extensionOf file k = extensionIn (validationOf file .numbers) (validationOf file .addresses) k

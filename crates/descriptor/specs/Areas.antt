@@ -17,10 +17,11 @@ unfoldable pub areaAfter : DescriptorNumbers → List RecordNumber → ℕ → R
 areaAfter d addresses zero = record { 0 = 2 }
 areaAfter d addresses (suc k) = record { 0 = aexOf addresses (suc k) .0 + areaRecords (capacityOf (growthIn d) (suc k)) (d .lind) (d .reclen) }
 
--- the position where area k starts, and where it ends
+-- the position where area k starts
 abbrev pub areaStartOf : DescriptorNumbers → List RecordNumber → ℕ → ℕ
 areaStartOf d addresses k = positionOf (d .reclen) (aexOf addresses k) (record { 0 = 1 })
 
+-- and where it ends, with its last record
 abbrev pub areaEndOf : DescriptorNumbers → List RecordNumber → ℕ → ℕ
 areaEndOf d addresses k = positionOf (d .reclen) (areaAfter d addresses k) (record { 0 = 1 })
 

@@ -18,10 +18,11 @@ use Rattle.layout.specs.FirstRecordWords.{fileCodeWord, reclenWord, kindWord, v
 unfoldable pub fileCodeOf : List ℕ → List ℕ
 fileCodeOf file = part file (firstRecordOffsetOf fileCodeWord) 4
 
--- the bits of the Integer*4 at a word, and of the Integer*8 at a word and the next
+-- the bits of the Integer*4 at a word
 unfoldable pub field4 : List ℕ → WordNumber → ℕ
 field4 file w = bitsAt integer4 file (firstRecordOffsetOf w)
 
+-- and of the Integer*8 at a word and the next
 unfoldable pub field8 : List ℕ → WordNumber → ℕ
 field8 file w = bitsAt integer8 file (firstRecordOffsetOf w)
 

@@ -5,6 +5,7 @@ use mathlib.Core.Logic.{_⊎_}
 use mathlib.Core.Bool.{Bool, true, false, cond}
 use mathlib.Core.List.{List, [], _∷_}
 
+-- a rule: the refusal where it is broken, and whether it holds
 pub record Rule : Type 0 where
   pub number : ℕ
   pub holds : Bool

@@ -51,10 +51,11 @@ fillingRules bytes d addresses =
     row 11 (areasEnd d addresses) ∷
     []
 
--- the refusals of these two parts, 0 where all their rules hold
+-- the refusal of the settings, 0 where all their rules hold
 unfoldable pub settingRefusal : ℕ → DescriptorNumbers → ℕ
 settingRefusal bytes d = refusalIn (settingRules bytes d)
 
+-- and of how far the file is filled: xnext, the next free word and the index areas
 unfoldable pub fillingRefusal : ℕ → DescriptorNumbers → List RecordNumber → ℕ
 fillingRefusal bytes d addresses = refusalIn (fillingRules bytes d addresses)
 

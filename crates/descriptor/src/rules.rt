@@ -14,6 +14,8 @@ use layout::first_record;
 ghost use Prim.Native.Nat.{_≤_};
 ghost use lib.ListN.{length};
 ghost use Rattle.outcome.specs.Outcome.{Answers};
+ghost use Rattle.words.specs.Word.{integer4, signedOf};
+ghost use Rattle.words.specs.Range.{within};
 ghost use Rattle.words.specs.Code.{sameBytes};
 ghost use Rattle.geometry.specs.Growth.{Growing};
 ghost use Rattle.layout.specs.FirstRecordWords.{fileCode};
@@ -37,15 +39,22 @@ pub(crate) fn code_holds(file: &[u8]) -> bool
     )
 }
 
+// Whether the record length is admitted.
+fn reclen_holds(reclen: u64) -> bool
+    ensures { λ r. ⌜ Answers (within 16 4096 (signedOf integer4 reclen)) r ⌝ }
+{
+    words::within4(
+        reclen,
+        DescriptorNumbers::RECLEN_MIN,
+        DescriptorNumbers::RECLEN_MAX,
+    )
+}
+
 // Rules 3 to 8, on the numbers and the count of bytes lent: the first that is broken, or 0.
 pub fn setting_refusal(bytes: u64, d: DescriptorNumbers) -> u32
     ensures { λ r. ⌜ Answers (settingRefusal bytes d) r ⌝ }
 {
-    if !words::within4(
-        d.reclen,
-        DescriptorNumbers::RECLEN_MIN,
-        DescriptorNumbers::RECLEN_MAX,
-    ) {
+    if !reclen_holds(d.reclen) {
         return 3;
     }
     if DescriptorNumbers::BYTES_MAX < bytes {

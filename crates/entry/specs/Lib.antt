@@ -1,7 +1,3 @@
--- What the contracts of `entry` cite, in the order of 01: the entry descriptor's fields, what an entry holds, the tables, opening an entry, the answers; and the bounds that the code asks.
-pub mod EntryDescriptor
-pub mod Contents
-pub mod Tables
+-- What the contracts of `entry` cite, in the order of 01: opening an entry of validated numbers, and what the calls answer.
 pub mod Opening
 pub mod Answers
-pub mod Bounds

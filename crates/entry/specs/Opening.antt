@@ -16,11 +16,11 @@ use Rattle.layout.specs.EntryWords.{headWords, descriptorWords, sectionsMax, en
 use Rattle.descriptor.specs.declared.numbers.DescriptorNumbers.{DescriptorNumbers}
 use Rattle.descriptor.specs.Refusal.{Rule, row, refusalIn}
 use Rattle.descriptor.specs.FirstRecord.{aexOf, growthIn, freeOf}
-use Rattle.entry.specs.declared.contents.Piece.{Piece}
+use Rattle.pieces.specs.declared.contents.Piece.{Piece}
+use Rattle.pieces.specs.EntryDescriptor.{entryCodeOf, versionOf, nsecOf, nwordOf, xnumOf, dataOf}
+use Rattle.pieces.specs.Contents.{dataWithin, sectionsWithin, sectionsApart, dataApart}
 use Rattle.entry.specs.declared.entered.Entered.{Entered}
 use Rattle.entry.specs.declared.inner.Extent.{Extent}
-use Rattle.entry.specs.EntryDescriptor.{entryCodeOf, versionOf, nsecOf, nwordOf, xnumOf, dataOf}
-use Rattle.entry.specs.Contents.{dataWithin, sectionsWithin, sectionsApart, dataApart}
 
 -- where the index of entry e stands: its slot in its extension's area
 unfoldable pub slotPositionOf : DescriptorNumbers → List RecordNumber → EntryNumber → ℕ
@@ -74,23 +74,26 @@ contentRules file start nsec nword array =
     row 19 (dataApart file start nsec array) ∷
     []
 
--- the refusals of these parts, 0 where all their rules hold
+-- the refusal of the start: 13, or 0 where it holds
 unfoldable pub startRefusal : DescriptorNumbers → Place → ℕ
 startRefusal d place = refusalIn (startRules d place)
 
+-- the refusal of the entry descriptor: the first of 14 to 16 that is broken, or 0
 unfoldable pub headRefusal : List ℕ → DescriptorNumbers → ℕ → EntryNumber → ℕ
 headRefusal file d start e = refusalIn (headRules file d start e)
 
+-- the refusal of what the entry holds: the first of 17 to 19 that is broken, or 0
 unfoldable pub contentRefusal : List ℕ → ℕ → ℕ → ℕ → Piece → ℕ
 contentRefusal file start nsec nword array = refusalIn (contentRules file start nsec nword array)
 
--- the whole table, and its refusal
+-- the whole table of an entry that starts at a place
 abbrev pub entryRules : List ℕ → DescriptorNumbers → EntryNumber → Place → List Rule
 entryRules file d e place =
     let start = startOf d place in
     numberRules d e ++
     (startRules d place ++ (headRules file d start e ++ contentRules file start (nsecOf file start) (nwordOf file start) (dataOf file start)))
 
+-- its refusal, for the place that the entry's slot names: the first of 12 to 19 that is broken, or 0
 unfoldable pub entryRefusal : List ℕ → DescriptorNumbers → List RecordNumber → EntryNumber → ℕ
 entryRefusal file d addresses e = refusalIn (entryRules file d e (placeStored file (slotPositionOf d addresses e)))
 

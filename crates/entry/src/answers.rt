@@ -1,8 +1,8 @@
 // The answers of this crate's calls.
-use super::tables::Sections;
 use geometry::Place;
 use geometry::RecordNumber;
 use geometry::WordNumber;
+use pieces::Sections;
 ghost use Rattle.outcome.specs.Outcome.{Answers};
 ghost use Rattle.entry.specs.Answers.{openCase};
 
@@ -36,13 +36,6 @@ pub struct OpenCase {
 pub struct Opened {
     pub answer: Open,
     pub sections: Sections,
-}
-
-// A part of the lent bytes: the refusal, 0 when it is handed out, and where it starts and ends.
-pub struct PartPlace {
-    pub refusal: u32,
-    pub start: usize,
-    pub end: usize,
 }
 
 // The number and the values of a case.

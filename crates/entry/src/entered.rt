@@ -1,9 +1,9 @@
 // What opening an entry of validated numbers finds.
-use super::contents::Piece;
 use geometry::EntryAddress;
 use geometry::Place;
 use geometry::RecordNumber;
 use geometry::WordNumber;
+use pieces::Piece;
 ghost use Rattle.outcome.specs.Outcome.{Answers};
 ghost use Rattle.entry.specs.Opening.{notEntered};
 

@@ -4,12 +4,12 @@ use super::answers::DataPlace;
 use super::answers::Open;
 use super::answers::Opened;
 use super::inner::enter;
-use super::tables::no_sections;
-use super::tables::section_tables;
 use descriptor::Validated;
 use descriptor::refusal_of;
 use descriptor::validate;
 use geometry::EntryNumber;
+use pieces::no_sections;
+use pieces::section_tables;
 ghost use Rattle.outcome.specs.Outcome.{Answers};
 ghost use Rattle.entry.specs.Answers.{openOf};
 

@@ -1,11 +1,4 @@
 // The rules of an entry, 13 to 19, tested in the order of their tables.
-use super::contents::Piece;
-use super::contents::data_apart;
-use super::contents::data_within;
-use super::contents::sections_apart;
-use super::contents::sections_within;
-use super::contents::word4_at;
-use super::contents::word8_at;
 use descriptor::DescriptorNumbers;
 use descriptor::inner::free_position;
 use geometry::EntryNumber;
@@ -15,6 +8,13 @@ use geometry::entry_position;
 use geometry::position_within;
 use layout::entry_descriptor;
 use layout::entry_descriptor::descriptor_words;
+use pieces::Piece;
+use pieces::data_apart;
+use pieces::data_within;
+use pieces::sections_apart;
+use pieces::sections_within;
+use pieces::word4_at;
+use pieces::word8_at;
 ghost use Prim.Native.Nat.{_+_, _*_, _^_, _≤_, _<_};
 ghost use lib.ListN.{length};
 ghost use Rattle.outcome.specs.Outcome.{Answers};
@@ -22,7 +22,7 @@ ghost use Rattle.layout.specs.EntryWords.{headWords};
 ghost use Rattle.descriptor.specs.FirstRecord.{freeOf};
 ghost use Rattle.descriptor.specs.Bounds.{Settled, Free};
 ghost use Rattle.entry.specs.Opening.{startRefusal, headRefusal, contentRefusal};
-ghost use Rattle.entry.specs.Bounds.{Described};
+ghost use Rattle.pieces.specs.Bounds.{Described};
 
 // Rule 13, where an entry starts: 0 or 13.
 pub(crate) fn start_refusal(d: DescriptorNumbers, place: Place) -> u32

@@ -1,43 +1,29 @@
 -- Laws of the capacities for all callers: they stay within the limit and never shrink, and their totals rise. Assumes nothing.
-use mathlib.Core.Path.{_≡_, refl, sym, ap, _∙_, subst}
+use mathlib.Core.Path.{_≡_, refl, sym, ap, _∙_}
 use mathlib.Core.Bool.{Bool, true, false, _||_}
 use Prim.Native.Nat.{ℕ, zero, suc, _+_, _*_, _-_, _≤_, _<_}
 use native.Mathlib.Omega.{arith}
 use native.Mathlib.Nat.{mul-le-mul-left, lt-of-not-le}
-use native.Mathlib.Decide.{decLe}
+use native.Mathlib.Decide.{decLe, le-ind}
 use native.Mathlib.Numerals.{add-one}
+use mathlib.Mathlib.Data.Bool.Basic.{or-eq-false-eq-eq-false-and-eq-false}
 use borrow.Author.Tests.{ltb-false}
-use lib.Dec.{T, ltb}
+use lib.Dec.{ltb}
+use Rattle.outcome.proofs.Either.{either}
 use Rattle.geometry.specs.declared.growth.Growth.{Growth}
 use Rattle.geometry.specs.Growth.{capacityOf, totalOf, overOf}
 use Rattle.geometry.proofs.Steps.{capacity-step, over-step}
 
-or-left : (a b : Bool) → a || b ≡ false → a ≡ false
-or-left true b e = e
-or-left false b e = refl
-
-or-right : (a b : Bool) → a || b ≡ false → b ≡ false
-or-right true b e = absurd (subst T e tt)
-or-right false b e = e
-
 module _ (g : Growth) where
-  over-less : (k d : ℕ) → overOf g (k + d) ≡ false → overOf g k ≡ false
-  over-less k zero e = let q : k + 0 ≡ k = omega arith in (rw q at e)
-  over-less k (suc d) e =
-      let q : k + suc d ≡ k + d + 1 = omega arith in
-      over-less k d (or-left (overOf g (k + d)) _ (sym (over-step g (k + d)) ∙ ap (overOf g) (sym q) ∙ e))
-
   -- where the first n capacities are within the limit, fewer are
   pub over-fewer : (k n : ℕ) → k ≤ n → overOf g n ≡ false → overOf g k ≡ false
-  over-fewer k n h e = let q : k + (n - k) ≡ n = omega arith in over-less k (n - k) (ap (overOf g) q ∙ e)
+  over-fewer k n h e =
+      le-ind (λ i. overOf g i ≡ false → overOf g k ≡ false) (λ q. q)
+      (λ i l f q. f (or-eq-false-eq-eq-false-and-eq-false (overOf g i) _ .0 (sym (over-step g i) ∙ ap (overOf g) (add-one i) ∙ q) .0)) n h e
 
   -- where they are not, more are not
   pub over-more : (k n : ℕ) → k ≤ n → overOf g k ≡ true → overOf g n ≡ true
-  over-more k n h e = by (overOf g n) refl
-    where
-      by : (b : Bool) → overOf g n ≡ b → overOf g n ≡ true
-      by true q = q
-      by false q = q ∙ sym (over-fewer k n h q) ∙ e
+  over-more k n h e = either (overOf g n) (λ q. q) (λ q. q ∙ sym (over-fewer k n h q) ∙ e)
 
   -- with those before it within the limit, one more is over it by its own capacity alone
   pub over-next : (k : ℕ) → overOf g k ≡ false → overOf g (k + 1) ≡ ltb 16384 (capacityOf g (k + 1))
@@ -47,7 +33,7 @@ module _ (g : Growth) where
   pub capacity-limit : (k n : ℕ) → 1 ≤ k → k ≤ n → overOf g n ≡ false → capacityOf g k ≤ 16384
   unfolding overOf
   capacity-limit zero n h l e = absurd (omega arith)
-  capacity-limit (suc k) n h l e = ltb-false 16384 (capacityOf g (suc k)) (or-right (overOf g k) _ (over-fewer (suc k) n l e))
+  capacity-limit (suc k) n h l e = ltb-false 16384 (capacityOf g (suc k)) (or-eq-false-eq-eq-false-and-eq-false (overOf g k) _ .0 (over-fewer (suc k) n l e) .1)
 
   -- the totals, one extension after the other
   pub total-none : totalOf g 0 ≡ 0
@@ -63,13 +49,10 @@ module _ (g : Growth) where
   pub total-last : (k : ℕ) → 1 ≤ k → totalOf g k ≡ totalOf g (k - 1) + capacityOf g k
   total-last k h = let q : k - 1 + 1 ≡ k = omega arith in (rw q at (total-next (k - 1)))
 
-  total-plus : (k d : ℕ) → totalOf g k ≤ totalOf g (k + d)
-  total-plus k zero = let q : k + 0 ≡ k = omega arith in rw q (omega arith)
-  total-plus k (suc d) = let q : k + suc d ≡ k + d + 1 = omega arith in rw q (omega (arith, total-next (k + d), total-plus k d))
-
   -- more extensions hold no fewer entries
   pub total-le : (k n : ℕ) → k ≤ n → totalOf g k ≤ totalOf g n
-  total-le k n h = let q : k + (n - k) ≡ n = omega arith in (rw q at (total-plus k (n - k)))
+  unfolding totalOf
+  total-le k n h = le-ind (λ i. totalOf g k ≤ totalOf g i) (omega arith) (λ i a l. omega arith) n h
 
   -- extensions that hold fewer entries are fewer
   pub total-before : (k n : ℕ) → totalOf g k < totalOf g n → k < n
@@ -87,22 +70,12 @@ module _ (g : Growth) where
     pub capacity-rise : (k : ℕ) → 1 ≤ k → capacityOf g k ≤ capacityOf g (k + 1)
     capacity-rise k h = rw (capacity-step g k h) (omega (arith, mul-le-mul-left (capacityOf g k) gex-low))
 
-    capacity-plus : (k d : ℕ) → 1 ≤ k → capacityOf g k ≤ capacityOf g (k + d)
-    capacity-plus k zero h = let q : k + 0 ≡ k = omega arith in rw q (omega arith)
-    capacity-plus k (suc d) h =
-        let q : k + suc d ≡ k + d + 1 = omega arith in
-        rw q (omega (arith, capacity-rise (k + d) (omega arith), capacity-plus k d h))
-
     -- nor than any before it
     pub capacity-le : (k n : ℕ) → 1 ≤ k → k ≤ n → capacityOf g k ≤ capacityOf g n
-    capacity-le k n h l = let q : k + (n - k) ≡ n = omega arith in (rw q at (capacity-plus k (n - k) h))
+    capacity-le k n h l =
+        le-ind (λ i. capacityOf g k ≤ capacityOf g i) (omega arith) (λ i a r. omega (arith, rw add-one at (capacity-rise i (omega arith)))) n l
 
     -- each extension has room for an entry
     pub capacity-some : (k : ℕ) → 1 ≤ k → 1 ≤ capacityOf g k
     unfolding capacityOf
     capacity-some k h = omega (arith, capacity-le 1 k (omega arith) h)
-
-    -- and more extensions hold more entries
-    pub total-lt : (k n : ℕ) → k < n → totalOf g k < totalOf g n
-    total-lt k n h =
-        omega (arith, total-le (k + 1) n (omega arith), total-next k, capacity-some (k + 1) (omega arith))

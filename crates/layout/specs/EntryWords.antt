@@ -7,38 +7,43 @@ use Rattle.geometry.specs.declared.units.EntryAddress.{EntryAddress}
 abbrev word : ℕ → EntryAddress
 word n = record { 0 = n }
 
+-- word 1: the entry's code
 abbrev pub entryCodeWord : EntryAddress
 entryCodeWord = word 1
 
+-- word 2: version, the application's
 abbrev pub versionWord : EntryAddress
 versionWord = word 2
 
+-- word 3: nsec, the count of sections
 abbrev pub nsecWord : EntryAddress
 nsecWord = word 3
 
--- two words: 4 and 5
+-- words 4 and 5: nword, the words of the whole entry
 abbrev pub nwordWord : EntryAddress
 nwordWord = word 4
 
--- two words: 6 and 7
+-- words 6 and 7: adata, the address of the data
 abbrev pub adataWord : EntryAddress
 adataWord = word 6
 
--- two words: 8 and 9
+-- words 8 and 9: ldata, the words of data
 abbrev pub ldataWord : EntryAddress
 ldataWord = word 8
 
--- two words: 10 and 11
+-- words 10 and 11: xnum, the entry's number
 abbrev pub xnumWord : EntryAddress
 xnumWord = word 10
 
--- from word 12: nsec identifiers of a word, nsec lengths of two, nsec addresses of two. Section i, counted from 0, has the i-th of each
+-- from word 12: nsec identifiers of a word, nsec lengths of two, nsec addresses of two. Section i, counted from 0, has the i-th of each: its identifier,
 abbrev pub identifierWord : ℕ → EntryAddress
 identifierWord i = word (12 + i)
 
+-- its length in words,
 abbrev pub lengthWord : ℕ → ℕ → EntryAddress
 lengthWord nsec i = word (12 + nsec + 2 * i)
 
+-- and its address
 abbrev pub addressWord : ℕ → ℕ → EntryAddress
 addressWord nsec i = word (12 + 3 * nsec + 2 * i)
 
@@ -46,10 +51,11 @@ addressWord nsec i = word (12 + 3 * nsec + 2 * i)
 abbrev pub firstContent : ℕ → EntryAddress
 firstContent nsec = word (12 + 5 * nsec)
 
--- the words before the tables, and those of a descriptor with nsec sections
+-- the words before the tables
 abbrev pub headWords : ℕ
 headWords = 11
 
+-- the words of a descriptor with nsec sections
 abbrev pub descriptorWords : ℕ → ℕ
 descriptorWords nsec = headWords + 5 * nsec
 

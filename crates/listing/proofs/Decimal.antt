@@ -9,12 +9,8 @@ use native.Mathlib.Decide.{decLe}
 use borrow.Author.Tests.{lt-ltb, le-ltb}
 use lib.Dec.{ltb}
 use lib.ListN.{length, length-append}
-use Rattle.io.specs.Digits.{digits, glyph, Fewest}
+use Rattle.io.specs.Digits.{digits, Fewest}
 use Rattle.listing.specs.Text.{decimalIn, decimalOf, fieldOf}
-
--- the code of a decimal digit
-digit : (m : ℕ) → m < 10 → glyph m ≡ 48 + m
-digit m h = rw (lt-ltb m 10 h)
 
 -- the fewest digits that hold a number are its decimal digits
 fewest-digits : (j k n : ℕ) → k ≤ j → Fewest 10 1 n k → digits 10 k n ≡ decimalIn j n
@@ -30,7 +26,7 @@ fewest-digits (suc j) (suc (suc k)) n h f =
     let high = rw (pow-suc 10 (suc k), pow-suc 10 k) at (f .1) in
     let some = one-le-pow k 10 (omega arith) in
     let p : suc k - 1 ≡ k = omega arith in
-    rw (le-ltb n 10 (omega arith), digit (n % 10) (mod-lt n (omega arith)))
+    rw (le-ltb n 10 (omega arith), lt-ltb (n % 10) 10 (mod-lt n (omega arith)))
     (ap (λ (l : List ℕ). l ++ ((48 + n % 10) ∷ []))
     (fewest-digits j (suc k) (n / 10) (omega arith) (omega arith, rw (pow-suc 10 k) (omega arith), λ g. rw p (omega arith))))
 
@@ -40,8 +36,8 @@ few k n h f =
     elim (decLe k 20) [
       | yes g ↦ g
       | no g ↦
-          let more : 20 ≤ k - 1 = omega (arith, lt-of-not-le g) in
-          absurd (omega (arith, f .2 (omega arith), pow-le-pow-right {n = 10} (omega arith) {i = 20} {j = k - 1} more))
+          let more = lt-of-not-le g in
+          absurd (omega (arith, f .2 (omega arith), pow-le-pow-right {n = 10} (omega arith) {i = 20} {j = k - 1} (omega arith)))
     ]
 
 -- the fewest digits of a number are its decimal

@@ -1,20 +1,21 @@
--- Laws of a whole listing: its length, its pieces written one after the other, its cases, and what a lent buffer holds of it. Assumes nothing.
+-- Laws of a whole listing: its length, its cases, and what a lent buffer holds of it. Assumes nothing.
 use Prim.Native.Nat.{ℕ, _+_, _≤_, _<_}
-use mathlib.Core.Path.{_≡_, refl, sym, _∙_}
+use mathlib.Core.Path.{_≡_}
 use mathlib.Core.List.{List}
 use native.Mathlib.Omega.{arith}
+use native.Mathlib.Nat.{zero-add}
 use borrow.Author.Tests.{le-leb, lt-leb}
 use lib.ListN.{length}
 use Rattle.image.specs.Image.{splice}
-use Rattle.image.proofs.Splice.{splice-adjacent}
 use Rattle.geometry.specs.declared.units.RecordNumber.{RecordNumber}
 use Rattle.descriptor.specs.declared.numbers.DescriptorNumbers.{DescriptorNumbers}
 use Rattle.descriptor.specs.declared.validating.Validated.{Validated}
 use Rattle.descriptor.specs.declared.validating.Validation.{Validation}
 use Rattle.descriptor.specs.Answers.{validationOf}
-use Rattle.listing.specs.Text.{text, joined}
-use Rattle.listing.specs.Buffer.{countIn, filledBy}
+use Rattle.listing.specs.Text.{joined}
+use Rattle.listing.specs.Buffer.{countIn, filledBy, HandsOver}
 use Rattle.listing.specs.Listing.{header, refusedOf, rowsOf, refusedFile, entriesListing, listingIn, listingOf, overLimit, outputOf}
+use Rattle.listing.proofs.Laid.{Laid}
 
 -- bytes that fit a lent buffer
 module _ (bytes out : List ℕ) (fits : length bytes ≤ length out) where
@@ -28,38 +29,25 @@ module _ (bytes out : List ℕ) (fits : length bytes ≤ length out) where
   unfolding filledBy
   fit-filled = rw (le-leb (length bytes) (length out) fits)
 
-  -- so a count of all, with all written, is what is asked for
-  pub handed-over : (count : ℕ) (exit : List ℕ) → count ≡ length bytes → exit ≡ splice out 0 bytes
-      → (count ≡ countIn bytes out) × (exit ≡ filledBy bytes out)
-  handed-over count exit e x = (e ∙ sym fit-count, x ∙ sym fit-filled)
+  -- so where they are written at the start they are handed over
+  pub handed-over : {count : ℕ} {exit : List ℕ} → Laid out 0 bytes count exit → HandsOver bytes out count exit
+  handed-over w = rw (fit-count, fit-filled) (rw zero-add at w)
 
 -- and bytes that do not
-pub left-alone : (bytes out : List ℕ) → length out < length bytes → (0 ≡ countIn bytes out) × (out ≡ filledBy bytes out)
+pub left-alone : (bytes out : List ℕ) → length out < length bytes → HandsOver bytes out 0 out
 unfolding countIn filledBy
 left-alone bytes out long = let n = lt-leb (length bytes) (length out) long in (rw n, rw n)
 
--- the listing of validated numbers: the header, and the rows behind it
-module _ (file : List ℕ) (d : DescriptorNumbers) (addresses : List RecordNumber) where
-  -- its length
-  pub length-entries : length (entriesListing file d addresses) ≡ 38 + length (joined (rowsOf file d addresses))
-  unfolding entriesListing header
-  length-entries = omega arith
-
-  -- the two written one behind the other
-  pub entries-laid : (out : List ℕ)
-      → splice (splice out 0 header) 38 (joined (rowsOf file d addresses)) ≡ splice out 0 (entriesListing file d addresses)
-  unfolding entriesListing header
-  entries-laid out = splice-adjacent out 0 header 38 (joined (rowsOf file d addresses)) refl
+-- the length of the listing of validated numbers
+pub length-entries : (file : List ℕ) (d : DescriptorNumbers) (addresses : List RecordNumber)
+    → length (entriesListing file d addresses) ≡ 38 + length (joined (rowsOf file d addresses))
+unfolding entriesListing header
+length-entries file d addresses = omega arith
 
 -- the length of the line of a refused file
 pub length-refused-file : (n : ℕ) → length (refusedFile n) ≡ 4 + length (refusedOf n)
 unfolding refusedFile
 length-refused-file n = omega arith
-
--- its two pieces written one behind the other
-pub refused-laid : (n : ℕ) (out : List ℕ) → splice (splice out 0 (text "file")) 4 (refusedOf n) ≡ splice out 0 (refusedFile n)
-unfolding refusedFile
-refused-laid n out = splice-adjacent out 0 (text "file") 4 (refusedOf n) refl
 
 -- the listing, by the validation's case
 pub listing-by : (file : List ℕ) (v : Validation) (case : Validated) → v ≡ validationOf file → v .numbers ≡ case

@@ -1,15 +1,16 @@
 -- How long an output can be: what the program prints of any input fits 196,608 bytes. Assumes nothing.
 use Prim.Native.Nat.{ℕ, _-_, _^_, _≤_, _<_}
 use mathlib.Core.Path.{_≡_, refl, sym, ap, _∙_}
-use mathlib.Core.Bool.{Bool, true, false}
+use mathlib.Core.Bool.{true}
 use mathlib.Core.List.{List}
 use native.Mathlib.Omega.{arith}
 use native.Mathlib.Nat.{mul-le-mul-left, lt-of-not-le}
 use native.Mathlib.Decide.{decLe}
-use borrow.Author.Tests.{eqb-true}
+use borrow.Author.Tests.{eqb-true, eqb-false}
 use lib.Dec.{eqb}
 use lib.ListN.{length, take}
 use lib.Seq.{length-take-le}
+use Rattle.outcome.proofs.Either.{either}
 use Rattle.image.specs.Image.{splice}
 use Rattle.image.proofs.Splice.{length-splice}
 use Rattle.geometry.specs.declared.units.RecordNumber.{RecordNumber}
@@ -22,14 +23,13 @@ use Rattle.descriptor.specs.FirstRecord.{freeOf}
 use Rattle.descriptor.specs.Answers.{validationOf}
 use Rattle.descriptor.specs.Bounds.{Admitted}
 use Rattle.descriptor.proofs.Answered.{told}
-use Rattle.entry.specs.declared.contents.Piece.{Piece}
-use Rattle.entry.specs.declared.entered.Entered.{Entered}
-use Rattle.entry.specs.Contents.{dataWithin}
+use Rattle.pieces.specs.declared.contents.Piece.{Piece}
+use Rattle.pieces.specs.Contents.{dataWithin}
+use Rattle.pieces.proofs.Pieces.{data-placed}
 use Rattle.entry.specs.Opening.{slotPositionOf, placeStored, entryRefusal, enteredAt, enteredOf}
-use Rattle.entry.proofs.Pieces.{data-placed}
 use Rattle.entry.proofs.Entering.{entry-opens, entered-numbers, entered-refusal}
 use Rattle.listing.specs.Text.{space, newline}
-use Rattle.listing.specs.Listing.{openedRow, rowOf, entriesListing, listingIn, listingOf, overLimit, outputOf}
+use Rattle.listing.specs.Listing.{openedRow, rowOf, listingIn, overLimit, outputOf}
 use Rattle.listing.proofs.Areas.{most-entries}
 use Rattle.listing.proofs.Decimal.{length-small, field-short, field-small}
 use Rattle.listing.proofs.Lines.{length-refused, length-opened, length-refused-row, row-opened, row-refused, length-rest}
@@ -38,10 +38,7 @@ use Rattle.listing.proofs.Listings.{length-entries, length-refused-file
 -- data that lies within an entry has no more words than the entry
 data-words : (nsec nword : ℕ) (p : Piece) → nword < 2 ^ 32 → dataWithin nsec nword p ≡ true → p .words ≤ nword
 data-words nsec nword p h e =
-    elim (decLe (p .words) 0) [
-      | yes g ↦ omega arith
-      | no g ↦ omega (arith, data-placed nsec nword p h (λ z. g (omega arith)) e)
-    ]
+    either (eqb (p .words) 0) (λ t. omega (arith, eqb-true (p .words) 0 t)) (λ t. omega (arith, data-placed nsec nword p h (eqb-false (p .words) 0 t) e))
 
 -- the rows of a file within the limit
 module _ (file : List ℕ) (d : DescriptorNumbers) (addresses : List RecordNumber) (a : Admitted (length file) d addresses)
@@ -68,24 +65,15 @@ module _ (file : List ℕ) (d : DescriptorNumbers) (addresses : List RecordNumbe
 
   -- and a row has 36
   row-small : (e : ℕ) → e ≤ 5456 → length (rowOf e (enteredOf file d addresses (record { 0 = e }))) ≤ 36
-  row-small e h = by (eqb (x .refusal) 0) refl
-    where
-      x : Entered
-      x = enteredOf file d addresses (record { 0 = e })
-
-      by : (b : Bool) → eqb (x .refusal) 0 ≡ b → length (rowOf e x) ≤ 36
-      by true t =
-          let z = eqb-true (x .refusal) 0 t in
-          rw (row-opened e x z) (opened-small (record { 0 = e }) h (sym (entered-refusal file d addresses (record { 0 = e })) ∙ z))
-      by false t =
-          let n = x .refusal in
-          rw (row-refused e x t) (omega (arith, length-refused-row e n, length-refused n, length-small e (omega arith), field-short n newline))
-
-  entries-short : length (entriesListing file d addresses) ≤ 196608
-  entries-short =
-      let n = most-entries (length file) d addresses a short in
-      let rows = length-rest file d addresses 36 1 (entriesBefore (d .xnext)) (λ i l m. row-small i (omega arith)) in
-      omega (arith, length-entries file d addresses)
+  row-small e h =
+      let x = enteredOf file d addresses (record { 0 = e }) in
+      either (eqb (x .refusal) 0)
+      (λ t.
+      let z = eqb-true (x .refusal) 0 t in
+      rw (row-opened e x z) (opened-small (record { 0 = e }) h (sym (entered-refusal file d addresses (record { 0 = e })) ∙ z)))
+      (λ t.
+      let n = x .refusal in
+      rw (row-refused e x t) (omega (arith, length-refused-row e n, length-refused n, length-small e (omega arith), field-short n newline)))
 
 -- the listing of a file within the limit, by the validation's case
 case-short : (file : List ℕ) (case : Validated) (addresses : List RecordNumber)
@@ -93,24 +81,21 @@ case-short : (file : List ℕ) (case : Validated) (addresses : List RecordNumber
     → length file ≤ 65536 → length (listingIn file case addresses) ≤ 196608
 unfolding listingIn
 case-short file (Refused n) addresses f h = omega (arith, length-refused-file n, length-refused n, field-short n newline)
-case-short file (Numbers d) addresses f h = entries-short file d addresses (f d refl) h
-
-listing-short : (file : List ℕ) → length file ≤ 65536 → length (listingOf file) ≤ 196608
-listing-short file h =
-    let v = validationOf file in
-    rw (listing-by file v (v .numbers) refl refl) (case-short file (v .numbers) (v .addresses) (λ d q. told file v d refl q .admitted) h)
-
--- the line of an input over the limit
-pub length-over : length overLimit ≡ 23
-unfolding overLimit
-length-over = refl
+case-short file (Numbers d) addresses f h =
+    let a = f d refl in
+    let few = most-entries (length file) d addresses a h in
+    let rows = length-rest file d addresses 36 1 (entriesBefore (d .xnext)) (λ i l m. row-small file d addresses a h i (omega arith)) in
+    omega (arith, length-entries file d addresses)
 
 -- the output of any input fits 196,608 bytes
 pub room : (input : List ℕ) → length (outputOf input) ≤ 196608
-room input = elim (decLe (length input) 65536) [
-  | yes g ↦ rw (output-within input g) (listing-short input g)
-  | no g ↦ rw (output-over input (lt-of-not-le g)) (omega (arith, length-over))
-]
+unfolding overLimit
+room input =
+    let v = validationOf input in
+    elim (decLe (length input) 65536) [
+      | yes g ↦ rw (output-within input g, listing-by input v (v .numbers) refl refl) (case-short input (v .numbers) (v .addresses) (λ d q. told input v d refl q .admitted) g)
+      | no g ↦ rw (output-over input (lt-of-not-le g)) (omega arith)
+    ]
 
 -- so a buffer of that length holds as many bytes as `list_input` answers
 pub counted : (input out exit : List ℕ) (n : ℕ) → length out ≡ 196608 → n ≡ length (outputOf input) → exit ≡ splice out 0 (outputOf input)

@@ -62,11 +62,12 @@ refusedFile n = text "file" ++ refusedOf n
 unfoldable pub entriesListing : List ℕ → DescriptorNumbers → List RecordNumber → List ℕ
 entriesListing file d addresses = header ++ joined (rowsOf file d addresses)
 
--- the listing of a file
+-- the listing by the validation's case: a refused file has a line of its own
 unfoldable pub listingIn : List ℕ → Validated → List RecordNumber → List ℕ
 listingIn file (Refused n) addresses = refusedFile n
 listingIn file (Numbers d) addresses = entriesListing file d addresses
 
+-- the listing of a file
 unfoldable pub listingOf : List ℕ → List ℕ
 listingOf file = listingIn file (validationOf file .numbers) (validationOf file .addresses)
 

@@ -11,10 +11,11 @@ abbrev pub text : String → List ℕ
 text none = []
 text (c then s) = code c ∷ text s
 
--- a space, and the newline that ends a line
+-- the space between two fields
 abbrev pub space : ℕ
 space = 32
 
+-- the newline that ends a line
 abbrev pub newline : ℕ
 newline = 10
 

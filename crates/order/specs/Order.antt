@@ -62,10 +62,11 @@ checkedFrom file d addresses k (suc left) =
 abbrev pub checkedAll : List ℕ → DescriptorNumbers → List RecordNumber → Checked
 checkedAll file d addresses = checkedFrom file d addresses 1 (entriesBefore (d .xnext))
 
--- the check of a file: a refused descriptor gives entry 0 and its number
+-- the check by the validation's case: a refused descriptor gives entry 0 and its number
 unfoldable pub checkedIn : List ℕ → Validated → List RecordNumber → Checked
 checkedIn file (Refused n) addresses = record { entry = record { 0 = 0 }; refusal = n }
 checkedIn file (Numbers d) addresses = checkedAll file d addresses
 
+-- the check of a file
 unfoldable pub checkOf : List ℕ → Checked
 checkOf file = checkedIn file (validationOf file .numbers) (validationOf file .addresses)

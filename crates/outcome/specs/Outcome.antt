@@ -1,5 +1,4 @@
--- What a contract says of an outcome: the answer is a definition's value, the lent bytes at exit are a definition's bytes, or both.
-use Prim.Native.Nat.{ℕ}
+-- What a contract says of an outcome: the answer is a definition's value, a lent slice at exit is a definition's list, or both.
 use mathlib.Core.Path.{_≡_}
 use mathlib.Core.List.{List}
 
@@ -7,10 +6,10 @@ use mathlib.Core.List.{List}
 abbrev pub Answers : {A : Type 0} → A → A → Type 0
 Answers value answer = answer ≡ value
 
--- lent bytes are left as a definition has them
-abbrev pub Leaves : List ℕ → List ℕ → Type 0
-Leaves bytes after = after ≡ bytes
+-- a lent slice, of elements of any type, is left as a definition has it
+abbrev pub Leaves : {E : Type 0} → List E → List E → Type 0
+Leaves list after = after ≡ list
 
 -- both
-abbrev pub AnswersAndLeaves : {A : Type 0} → A → List ℕ → A → List ℕ → Type 0
-AnswersAndLeaves value bytes answer after = Answers value answer × Leaves bytes after
+abbrev pub AnswersAndLeaves : {A E : Type 0} → A → List E → A → List E → Type 0
+AnswersAndLeaves value list answer after = Answers value answer × Leaves list after

@@ -1,4 +1,4 @@
--- The index areas of admitted numbers: each stands behind the first record, ends before every later one starts, and before the next free position. Assumes nothing.
+-- The index areas of admitted numbers: each stands behind the first record, ends before every later one starts, and has room for its slots. Assumes nothing.
 use Prim.Native.Nat.{ℕ, _+_, _*_, _-_, _≤_, _<_}
 use mathlib.Core.Path.{_≡_}
 use mathlib.Core.List.{List}
@@ -9,18 +9,13 @@ use Rattle.geometry.specs.Units.{positionOf}
 use Rattle.geometry.specs.Growth.{capacityOf}
 use Rattle.geometry.proofs.Slots.{records-hold}
 use Rattle.descriptor.specs.declared.numbers.DescriptorNumbers.{DescriptorNumbers}
-use Rattle.descriptor.specs.FirstRecord.{aexOf, growthIn, freeOf}
+use Rattle.descriptor.specs.FirstRecord.{aexOf, growthIn}
 use Rattle.descriptor.specs.Areas.{areaAfter, areaStartOf, areaEndOf}
 use Rattle.descriptor.specs.Bounds.{Admitted}
-use Rattle.descriptor.proofs.AreaOrder.{area-low, after-le, area-ends, area-words, area-first}
+use Rattle.descriptor.proofs.AreaOrder.{area-low, after-le, area-words, area-first}
 
 module _ (bytes : ℕ) (d : DescriptorNumbers) (addresses : List RecordNumber) (a : Admitted bytes d addresses) where
-  -- an area ends before the next free position
-  pub area-free : (k : ℕ) → k ≤ d .nex → areaEndOf d addresses k ≤ freeOf d
-  unfolding positionOf
-  area-free k h = omega (arith, area-ends bytes d addresses a k h)
-
-  -- and no later than a later one
+  -- an area ends no later than a later one
   pub area-end-le : (j k : ℕ) → j ≤ k → k ≤ d .nex → areaEndOf d addresses j ≤ areaEndOf d addresses k
   unfolding positionOf
   area-end-le j k h m =

@@ -3,27 +3,24 @@
 use Prim.Native.Nat.{ℕ, _+_, _*_, _-_, _≤_}
 use mathlib.Core.Path.{_≡_, refl, sym, ap, _∙_}
 use mathlib.Core.Bool.{true, false}
-use mathlib.Core.List.{List, [], _∷_}
+use mathlib.Core.List.{List}
 use native.Mathlib.Omega.{arith}
 use lib.ListN.{length, length-append}
 use Rattle.image.specs.Image.{part, zeros}
-use Rattle.image.specs.Writes.{put, writes, written}
+use Rattle.image.specs.Writes.{writes}
 use Rattle.image.proofs.Part.{part-part}
 use Rattle.image.proofs.Splice.{length-zeros}
-use Rattle.image.proofs.Writes.{length-writes, writes-one, writes-keep, follow-read}
+use Rattle.image.proofs.Writes.{length-writes, follow-read}
 use Rattle.words.proofs.Number.{length-numeral}
 use Rattle.descriptor.specs.declared.numbers.Settings.{Settings}
 use Rattle.descriptor.specs.declared.numbers.DescriptorNumbers.{DescriptorNumbers}
 use Rattle.descriptor.specs.FirstRecord.{createdOf}
 use Rattle.writer.specs.Creation.{creationRefusal, createdFile}
 use Rattle.writer.proofs.Created.{created-fits}
+use Rattle.written.proofs.Frame.{follow-keep}
 use Rattle.written.proofs.CreatedBack.{firstWrites, first-follows, first-one, created-written}
 use Rattle.promises.specs.Bytes.{byteAt, inFields, Says, firstOf, AsClassed, createClasses}
 use Rattle.promises.proofs.Bytes.{covered, uncovered, beside-both, byte-same, byte-zero, pass, by-tests}
-
--- the writes of the first record are its bytes
-length-record : (d : DescriptorNumbers) → length (written (firstWrites d)) ≡ 56 + 4 * (d .reclen - 14)
-length-record d = simp (length-append, length-numeral, length-zeros) (omega arith)
 
 module _ (file : List ℕ) (d : DescriptorNumbers) (low : 14 ≤ d .reclen) (room : 4 * d .reclen ≤ length file) (i : ℕ) where
   abbrev rest : ℕ
@@ -45,11 +42,9 @@ module _ (file : List ℕ) (d : DescriptorNumbers) (low : 14 ≤ d .reclen) (roo
   -- a byte behind the first record
   same-there : inFields 1 14 i ≡ false → inFields 15 rest i ≡ false → byteAt new i ≡ byteAt file i
   same-there fields behind =
-      let ws = firstWrites d in
-      let far = beside-both i 0 56 56 (4 * rest) (56 + 4 * rest) refl refl (uncovered 0 14 i fields) (uncovered 56 rest i behind) in
       byte-same new file i i
-      (ap (λ (f : List ℕ). part f i 1) (writes-one file 0 ws (first-follows d))
-      ∙ writes-keep file (put 0 (written ws) ∷ []) i 1 (rw (length-record d) far, tt))
+      (follow-keep i 1 file 0 (56 + 4 * rest) (firstWrites d) (first-follows d) (simp (length-append, length-numeral, length-zeros) (omega arith))
+      (beside-both i 0 56 56 (4 * rest) (56 + 4 * rest) refl refl (uncovered 0 14 i fields) (uncovered 56 rest i behind)))
 
   created-byte : Says (firstOf (createClasses (d .reclen) i)) (byteAt file i) (byteAt new i)
   created-byte =

@@ -8,12 +8,12 @@ use Rattle.outcome.proofs.Determined.{one-outcome}
 use Rattle.geometry.specs.declared.units.RecordNumber.{RecordNumber}
 use Rattle.descriptor.specs.declared.numbers.Settings.{Settings}
 use Rattle.descriptor.specs.declared.numbers.DescriptorNumbers.{DescriptorNumbers}
-use Rattle.entry.specs.declared.answers.PartPlace.{PartPlace}
-use Rattle.entry.specs.Answers.{IsPart}
+use Rattle.handing.specs.declared.place.PartPlace.{PartPlace}
+use Rattle.handing.specs.Parts.{IsPart}
 use Rattle.writer.specs.declared.appending.Appended.{Appended}
 use Rattle.writer.specs.declared.inner.AppendedFrom.{AppendedFrom}
 use Rattle.writer.specs.Creation.{Creates}
-use Rattle.writer.specs.Handed.{Handed}
+use Rattle.storing.specs.Handed.{Handed}
 use Rattle.writer.specs.Answers.{Appends, AppendsFrom}
 use Rattle.listing.specs.Listing.{Lists, Prints}
 
@@ -34,6 +34,7 @@ append-from-determined file d addresses h p q f g a b = one-outcome a b
 pub list-determined : (file out : List ℕ) (p q : ℕ) (f g : List ℕ) → Lists file out p f → Lists file out q g → (p ≡ q) × (f ≡ g)
 list-determined file out p q f g a b = one-outcome a b
 
+-- so has what the program prints of an input
 pub print-determined : (input out : List ℕ) (p q : ℕ) (f g : List ℕ) → Prints input out p f → Prints input out q g → (p ≡ q) × (f ≡ g)
 print-determined input out p q f g a b = one-outcome a b
 

@@ -5,26 +5,24 @@ use Prim.Native.Nat.{ℕ, _+_, _≤_, _<_}
 use mathlib.Core.Path.{_≡_, refl, sym, ap, _∙_}
 use mathlib.Core.List.{List, [], _∷_, append-nil}
 use native.Mathlib.Omega.{arith}
-use borrow.Author.Tests.{eqb-true}
-use lib.Dec.{eqb}
 use lib.ListN.{length, take, length-append}
 use Rattle.outcome.specs.Outcome.{Answers}
 use Rattle.geometry.specs.declared.units.EntryNumber.{EntryNumber}
 use Rattle.geometry.specs.Units.{entriesBefore}
 use Rattle.descriptor.specs.declared.numbers.Settings.{Settings}
 use Rattle.descriptor.specs.declared.validating.Validation.{Validation}
+use Rattle.descriptor.specs.declared.numbers.DescriptorNumbers.{DescriptorNumbers}
 use Rattle.descriptor.specs.Refusal.{AllHold}
 use Rattle.descriptor.specs.FirstRecord.{numbersOf, addressesOf}
 use Rattle.descriptor.specs.Rules.{fileRefusal}
-use Rattle.descriptor.specs.Answers.{validationOf, validatedCase}
+use Rattle.descriptor.specs.Answers.{validationOf}
 use Rattle.descriptor.proofs.Answered.{answer-numbers, answer-refused}
 use Rattle.entry.specs.declared.answers.Opened.{Opened}
 use Rattle.entry.specs.Answers.{openOf, openCase}
 use Rattle.writer.specs.declared.appending.Appended.{Appended}
 use Rattle.writer.specs.Creation.{Creates}
-use Rattle.writer.specs.Handed.{Handed, Integers}
+use Rattle.storing.specs.Handed.{Handed, Integers}
 use Rattle.writer.specs.Answers.{appendIn, appendOf, Appends}
-use Rattle.outcome.proofs.Either.{either}
 use Rattle.listing.specs.Text.{joined}
 use Rattle.listing.specs.Listing.{listingOf, overLimit, outputOf, Lists, Prints}
 use Rattle.listing.specs.Lines.{linesIn, AllLines, listingLines, LeavesLines}
@@ -37,11 +35,12 @@ use Rattle.promises.specs.Tables.{validateTests, createTests, openTests,
 use Rattle.promises.specs.Demand.{Start}
 use Rattle.promises.specs.FileA.{A}
 use Rattle.promises.specs.Examples.{entry, withSection, withoutSection, Differ}
-use Rattle.promises.proofs.Readings.{length-contents}
+use Rattle.promises.proofs.Readings.{numbers-shown, length-contents}
 use Rattle.promises.proofs.Series.{after-accepted}
 use Rattle.promises.proofs.AppendNumbers.{answer-there, number-there}
 use Rattle.promises.proofs.NewEntry.{reading-new}
 use Rattle.promises.proofs.Demand3.{demand-3}
+use Rattle.promises.proofs.Scan.{by-file}
 use Rattle.promises.proofs.OrderPassed.{check-passed}
 use Rattle.promises.proofs.RefusalMeans.{validate-means, create-means, open-means, append-means}
 use Rattle.promises.proofs.WorkedExamples.{first-entries, entries-differ}
@@ -85,10 +84,7 @@ module _ (answer : List ℕ → Settings → ℕ) (after : List ℕ → Settings
 -- an append that is accepted was one to an admitted file
 accepted-file : (file : List ℕ) (h : Handed) → appendOf file h .refusal ≡ 0 → fileRefusal file ≡ 0
 unfolding appendIn
-accepted-file file h z =
-    either (eqb (fileRefusal file) 0)
-    (λ q. eqb-true (fileRefusal file) 0 q)
-    (λ q. rw (answer-refused file (fileRefusal file) refl q) at z)
+accepted-file file h z = by-file file (λ q. q) (λ q. rw (answer-refused file (fileRefusal file) refl q) at z)
 
 module _ (answer : List ℕ → Handed → Appended) (after : List ℕ → Handed → List ℕ) (meets : (file : List ℕ) (h : Handed) → Appends file h (answer file h) (after file h)) where
   -- every append whose tests all hold is accepted
@@ -131,8 +127,7 @@ module _ (calls : List Call) (g : AllFit calls) (file : List ℕ) (start : Start
       let given = answers calls file in
       let kept = demand-3 calls g file start .kept ∙ after-accepted calls given (contents file) in
       let count = sym (length-contents new) ∙ ap length kept ∙ length-append (contents file) (accepted calls given) in
-      let shown = ap (λ (v : Validation). entriesBefore (validatedCase (v .numbers) .numbers .xnext)) (answer-numbers new admitted-then) in
-      omega (arith, length-contents file, count, shown)
+      omega (arith, length-contents file, count, ap (λ (m : DescriptorNumbers). entriesBefore (m .xnext)) (numbers-shown new (answer-numbers new admitted-then)))
 
 module _ (answer : List ℕ → List ℕ → ℕ) (after : List ℕ → List ℕ → List ℕ) (meets : (file out : List ℕ) → Lists file out (answer file out) (after file out)) where
   -- a buffer that is long enough starts with the lines of the listing, as many bytes as the answer says; the bytes behind stay

@@ -3,6 +3,7 @@ pub mod Areas
 pub mod Spread
 pub mod EntriesStay
 pub mod SoundAfter
+pub mod Scan
 pub mod OrderPassed
 pub mod OrderSound
 pub mod CreatedSound

@@ -58,9 +58,10 @@ plain-decimal (suc k) n =
     (λ q. rw q (plain-digit n))
     (λ q. rw q (lines-append (decimalIn k (n / 10)) ((48 + n % 10) ∷ []) ∙ omega (arith, plain-decimal k (n / 10), plain-digit (n % 10))))
 
-plain-field : (n : ℕ) → linesIn (fieldOf n space) ≡ 0
+-- so does a field with a space behind it
+field-behind : (n : ℕ) {ys : List ℕ} → OneLine ys → OneLine (fieldOf n space ++ ys)
 unfolding fieldOf decimalOf
-plain-field n = lines-append (decimalOf n) (space ∷ []) ∙ omega (arith, plain-decimal 20 n)
+field-behind n {ys} line = line-behind (fieldOf n space) ys (lines-append (decimalOf n) (space ∷ []) ∙ omega (arith, plain-decimal 20 n)) line
 
 last-field : (n : ℕ) → OneLine (fieldOf n newline)
 unfolding fieldOf decimalOf
@@ -86,14 +87,11 @@ opened-line : (e : ℕ) (x : Entered) → OneLine (openedRow e x)
 unfolding openedRow
 opened-line e x =
     let last = fieldOf (x .array .words) newline in
-    line-behind (fieldOf e space) _ (plain-field e)
-    (line-behind (fieldOf (x .place .«record» .0) space) _ (plain-field (x .place .«record» .0))
-    (line-behind (fieldOf (x .place .word .0) space) _ (plain-field (x .place .word .0))
-    (line-behind (fieldOf (x .nword) space) _ (plain-field (x .nword))
-    (line-behind (fieldOf (x .nsec) space) _ (plain-field (x .nsec)) (subst OneLine (sym (append-nil last)) (last-field (x .array .words)))))))
+    field-behind e (field-behind (x .place .«record» .0) (field-behind (x .place .word .0) (field-behind (x .nword) (field-behind (x .nsec)
+    (subst OneLine (sym (append-nil last)) (last-field (x .array .words)))))))
 
 -- a row has one newline, at its end
-pub row-line : (e : ℕ) (x : Entered) → OneLine (rowOf e x)
+row-line : (e : ℕ) (x : Entered) → OneLine (rowOf e x)
 unfolding rowOf refusedRow decimalOf
 row-line e x =
     either (eqb (x .refusal) 0)

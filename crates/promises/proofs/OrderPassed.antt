@@ -1,11 +1,9 @@
 -- What a passed order check says of each entry: it opens, and stands behind its extension's area or the entry before it, and before the next area. Assumes nothing.
-use Prim.Native.Nat.{ℕ, zero, suc, _+_, _-_, _≤_, _<_}
-use mathlib.Core.Path.{_≡_, refl, sym, ap, _∙_}
+use Prim.Native.Nat.{ℕ, _+_, _-_, _≤_, _<_}
+use mathlib.Core.Path.{_≡_, sym, ap, _∙_}
 use mathlib.Core.Bool.{true, cond}
 use mathlib.Core.List.{List}
 use native.Mathlib.Omega.{arith}
-use native.Mathlib.Nat.{lt-of-not-le}
-use native.Mathlib.Decide.{decLe}
 use borrow.Author.Tests.{eqb-true, eqb-false, eq-eqb, ne-eqb, lt-ltb, leb-true, le-leb, ltb-true}
 use lib.Dec.{eqb, ltb}
 use Rattle.geometry.specs.declared.units.RecordNumber.{RecordNumber}
@@ -14,20 +12,18 @@ use Rattle.geometry.specs.Units.{entriesBefore}
 use Rattle.geometry.specs.Growth.{capacityOf}
 use Rattle.geometry.specs.Area.{slotOf}
 use Rattle.descriptor.specs.declared.numbers.DescriptorNumbers.{DescriptorNumbers}
-use Rattle.descriptor.specs.declared.validating.Validated.the-variants.{Numbers}
 use Rattle.descriptor.specs.FirstRecord.{numbersOf, addressesOf, growthIn}
 use Rattle.descriptor.specs.Refusal.{refusalIn}
 use Rattle.descriptor.specs.Rules.{fileRefusal}
-use Rattle.descriptor.specs.Answers.{validationOf}
 use Rattle.descriptor.proofs.Refusals.{all-hold}
-use Rattle.descriptor.proofs.Answered.{answer-numbers, answer-refused}
-use Rattle.entry.specs.Opening.{entryRefusal}
+use Rattle.entry.specs.Opening.{entryRefusal, endOf}
 use Rattle.entry.proofs.Entering.{entered-refusal}
 use Rattle.order.specs.declared.answers.Checked.{Checked}
 use Rattle.descriptor.specs.Areas.{areaStartOf, areaEndOf}
-use Rattle.entry.specs.Opening.{endOf}
-use Rattle.order.specs.Order.{startsInOrder, endsInOrder, orderRules, orderRefusal, allPass, checkedFrom, checkedIn, checkOf}
+use Rattle.order.specs.Order.{startsInOrder, endsInOrder, orderRules, orderRefusal, allPass, checkedIn, checkOf}
 use Rattle.outcome.proofs.Either.{either}
+use Rattle.written.proofs.ReadBack.{Validates}
+use Rattle.promises.proofs.Scan.{scan-all, scan-pass, check-refused, check-scans, by-file}
 use Rattle.promises.proofs.Spread.{entryAt}
 
 -- the slot of entry e among those of validated numbers
@@ -42,25 +38,10 @@ pub record Passed (file : List ℕ) (d : DescriptorNumbers) (addresses : List Re
   pub last : slotAt d e .place ≡ capacityOf (growthIn d) (slotAt d e .extension .0) → slotAt d e .extension .0 < d .nex
       → endOf (entryAt file d addresses e) ≤ areaStartOf d addresses (slotAt d e .extension .0 + 1)
 
--- ---- the two tests
+-- ---- one entry
 
+-- the two tests hold where what they ask for does
 module _ (d : DescriptorNumbers) (addresses : List RecordNumber) (slot : Slot) where
-  starts-first : (before start : ℕ) → startsInOrder d addresses slot before start ≡ true → slot .place ≡ 1 → areaEndOf d addresses (slot .extension .0) ≤ start
-  unfolding startsInOrder
-  starts-first before start t p = leb-true (areaEndOf d addresses (slot .extension .0)) start (rw (eq-eqb (slot .place) 1 p) at t)
-
-  starts-next : (before start : ℕ) → startsInOrder d addresses slot before start ≡ true → (slot .place ≡ 1 → ⊥) → before ≤ start
-  unfolding startsInOrder
-  starts-next before start t p = leb-true before start (rw (ne-eqb (slot .place) 1 p) at t)
-
-  ends-last : (end : ℕ) → endsInOrder d addresses slot end ≡ true → slot .place ≡ capacityOf (growthIn d) (slot .extension .0) → slot .extension .0 < d .nex
-      → end ≤ areaStartOf d addresses (slot .extension .0 + 1)
-  unfolding endsInOrder
-  ends-last end t p l =
-      leb-true end (areaStartOf d addresses (slot .extension .0 + 1))
-      (rw (eq-eqb (slot .place) (capacityOf (growthIn d) (slot .extension .0)) p, lt-ltb (slot .extension .0) (d .nex) l) at t)
-
-  -- and back
   starts-pass : (before start : ℕ) → (slot .place ≡ 1 → areaEndOf d addresses (slot .extension .0) ≤ start) → ((slot .place ≡ 1 → ⊥) → before ≤ start)
       → startsInOrder d addresses slot before start ≡ true
   unfolding startsInOrder
@@ -81,8 +62,6 @@ module _ (d : DescriptorNumbers) (addresses : List RecordNumber) (slot : Slot) w
       (λ q. rw (p, q)))
       (λ p. rw p)
 
--- ---- one entry
-
 -- a refusal that comes second
 second-none : (n m : ℕ) → cond (eqb n 0) m n ≡ 0 → (n ≡ 0) × (m ≡ 0)
 second-none n m e =
@@ -91,18 +70,20 @@ second-none n m e =
     (λ q. absurd (eqb-false n 0 q (rw q at e)))
 
 module _ (file : List ℕ) (d : DescriptorNumbers) (addresses : List RecordNumber) where
+  -- an entry with no refusal is passed
   pub passed : (e : ℕ) → orderRefusal file d addresses (record { 0 = e }) ≡ 0 → Passed file d addresses e
-  unfolding orderRefusal
+  unfolding orderRefusal startsInOrder endsInOrder
   passed e z =
-      let both = second-none (entryAt file d addresses e .refusal) (refusalIn (orderRules file d addresses (record { 0 = e }))) z in
+      let slot = slotAt d e in
+      let k = slot .extension .0 in
+      let this = entryAt file d addresses e in
+      let both = second-none (this .refusal) (refusalIn (orderRules file d addresses (record { 0 = e }))) z in
       let rows = all-hold (orderRules file d addresses (record { 0 = e })) (omega arith) (both .1) in
-      let before = endOf (entryAt file d addresses (e - 1)) in
-      let start = entryAt file d addresses e .start in
       record {
         opens = sym (entered-refusal file d addresses (record { 0 = e })) ∙ both .0;
-        first = starts-first d addresses (slotAt d e) before start (rows .0);
-        next = starts-next d addresses (slotAt d e) before start (rows .0);
-        last = ends-last d addresses (slotAt d e) (endOf (entryAt file d addresses e)) (rows .1 .0);
+        first = λ p. leb-true (areaEndOf d addresses k) (this .start) (rw (eq-eqb (slot .place) 1 p) at (rows .0));
+        next = λ p. leb-true (endOf (entryAt file d addresses (e - 1))) (this .start) (rw (ne-eqb (slot .place) 1 p) at (rows .0));
+        last = λ p l. leb-true (endOf this) (areaStartOf d addresses (k + 1)) (rw (eq-eqb (slot .place) (capacityOf (growthIn d) k) p, lt-ltb k (d .nex) l) at (rows .1 .0));
       }
 
   -- and back: an entry of which these hold is passed
@@ -115,46 +96,16 @@ module _ (file : List ℕ) (d : DescriptorNumbers) (addresses : List RecordNumbe
       let ends = ends-pass d addresses slot (endOf (entryAt file d addresses e)) (p .last) in
       rw (opening, starts, ends)
 
-  -- ---- the scan
-
-  scan-step : (n k : ℕ) (later : Checked) → cond (eqb n 0) later (record { entry = record { 0 = k }; refusal = n }) ≡ allPass → (n ≡ 0) × (later ≡ allPass)
-  scan-step n k later e =
-      either (eqb n 0)
-      (λ q. (eqb-true n 0 q, rw q at e))
-      (λ q. absurd (eqb-false n 0 q (ap (λ (c : Checked). c .refusal) (rw q at e))))
-
-  pub scan-all : (k left : ℕ) → checkedFrom file d addresses k left ≡ allPass → (e : ℕ) → k ≤ e → e < k + left → orderRefusal file d addresses (record { 0 = e }) ≡ 0
-  unfolding checkedFrom
-  scan-all k zero q e l h = absurd (omega arith)
-  scan-all k (suc left) q e l h =
-      let both = scan-step (orderRefusal file d addresses (record { 0 = k })) k (checkedFrom file d addresses (k + 1) left) q in
-      elim (decLe e k) [
-        | yes m ↦ (let same : e ≡ k = omega arith in ap (λ (j : ℕ). orderRefusal file d addresses (record { 0 = j })) same ∙ both .0)
-        | no m ↦ (let more = lt-of-not-le m in scan-all (k + 1) left (both .1) e (omega arith) (omega arith))
-      ]
-
-  pub scan-pass : (k left : ℕ) → ((e : ℕ) → k ≤ e → e < k + left → orderRefusal file d addresses (record { 0 = e }) ≡ 0) → checkedFrom file d addresses k left ≡ allPass
-  unfolding checkedFrom
-  scan-pass k zero all = refl
-  scan-pass k (suc left) all = rw (all k (omega arith) (omega arith)) (scan-pass (k + 1) left (λ e l h. all e (omega arith) (omega arith)))
-
   -- a file with these numbers, of all of whose entries these hold, passes the check
-  pub check-passes : validationOf file ≡ record { refusal = 0; numbers = Numbers d; addresses = addresses }
-      → ((e : ℕ) → 1 ≤ e → e ≤ entriesBefore (d .xnext) → Passed file d addresses e) → checkOf file ≡ allPass
+  pub check-passes : Validates file d addresses → ((e : ℕ) → 1 ≤ e → e ≤ entriesBefore (d .xnext) → Passed file d addresses e) → checkOf file ≡ allPass
   unfolding checkOf checkedIn
-  check-passes v all = rw v (scan-pass 1 (entriesBefore (d .xnext)) (λ e l h. passes e (all e l (omega arith))))
+  check-passes v all = rw v (scan-pass file d addresses 1 (entriesBefore (d .xnext)) (λ e l h. passes e (all e l (omega arith))))
 
 -- a file that passes the check is admitted, and so is each of its entries
 pub check-passed : (file : List ℕ) → checkOf file ≡ allPass
     → (fileRefusal file ≡ 0)
     × ((e : ℕ) → 1 ≤ e → e ≤ entriesBefore (numbersOf file .xnext) → Passed file (numbersOf file) (addressesOf file (numbersOf file .nex)) e)
-unfolding checkOf checkedIn
 check-passed file c =
-    either (eqb (fileRefusal file) 0)
-    (λ q.
-    let z = eqb-true (fileRefusal file) 0 q in
-    let d = numbersOf file in
-    let addresses = addressesOf file (d .nex) in
-    let all = rw (answer-numbers file z) at c in
-    (z, λ e l h. passed file d addresses e (scan-all file d addresses 1 (entriesBefore (d .xnext)) all e l (omega arith))))
-    (λ q. absurd (eqb-false (fileRefusal file) 0 q (ap (λ (x : Checked). x .refusal) (rw (answer-refused file (fileRefusal file) refl q) at c))))
+    by-file file
+    (λ z. (z, λ e l h. passed file _ _ e (scan-all file _ _ 1 (entriesBefore (numbersOf file .xnext)) (sym (check-scans file z) ∙ c) e l (omega arith))))
+    (λ q. absurd (eqb-false (fileRefusal file) 0 q (ap (λ (x : Checked). x .refusal) (sym (check-refused file q) ∙ c))))

@@ -4,8 +4,6 @@ use mathlib.Core.Path.{_≡_, ap}
 use mathlib.Core.Logic.{inl, inr}
 use mathlib.Core.List.{List}
 use native.Mathlib.Omega.{arith}
-use native.Mathlib.Nat.{lt-of-not-le}
-use native.Mathlib.Decide.{decLe}
 use lib.ListN.{length}
 use Rattle.geometry.specs.declared.units.RecordNumber.{RecordNumber}
 use Rattle.geometry.specs.Units.{entriesBefore}
@@ -13,22 +11,19 @@ use Rattle.geometry.specs.Growth.{capacityOf, totalOf}
 use Rattle.geometry.proofs.Capacities.{total-le, total-last}
 use Rattle.geometry.proofs.Slots.{holder-only, Stands}
 use Rattle.descriptor.specs.declared.numbers.DescriptorNumbers.{DescriptorNumbers}
-use Rattle.descriptor.specs.FirstRecord.{numbersOf, addressesOf, growthIn}
+use Rattle.descriptor.specs.FirstRecord.{growthIn}
 use Rattle.descriptor.specs.Bounds.{Admitted}
 use Rattle.descriptor.proofs.Fitting.{fit-full}
-use Rattle.descriptor.proofs.Answered.{file-admitted}
+use Rattle.descriptor.proofs.Answered.{file-admitted, answer-numbers}
 use Rattle.entry.proofs.Entering.{slot-in-use}
 use Rattle.descriptor.specs.Areas.{areaStartOf, areaEndOf}
 use Rattle.entry.specs.Opening.{endOf}
 use Rattle.order.specs.Order.{allPass, checkOf}
+use Rattle.written.proofs.Cases.{split}
 use Rattle.promises.specs.Regions.{Sound}
 use Rattle.promises.proofs.Areas.{area-end-le, areas-order, area-holds}
-use Rattle.promises.proofs.Spread.{Clear, entryAt, Spread, spread-apart, opened-behind}
+use Rattle.promises.proofs.Spread.{Clear, entryAt, Spread, sound-shown}
 use Rattle.promises.proofs.OrderPassed.{slotAt, Passed, check-passed}
-
--- a number is at most another, or above it
-split {ℓ} : {X : Type ℓ} (a b : ℕ) → (a ≤ b → X) → (b < a → X) → X
-split a b f g = elim (decLe a b) [ yes h ↦ f h | no h ↦ g (lt-of-not-le h) ]
 
 module _ (file : List ℕ) (d : DescriptorNumbers) (addresses : List RecordNumber) (a : Admitted (length file) d addresses)
     (all : (e : ℕ) → 1 ≤ e → e ≤ entriesBefore (d .xnext) → Passed file d addresses e) where
@@ -51,6 +46,10 @@ module _ (file : List ℕ) (d : DescriptorNumbers) (addresses : List RecordNumbe
   stands : (e : ℕ) → 1 ≤ e → e ≤ n → Stands (growthIn d) (d .nex) (d .lind) e (slotAt d e)
   stands e l h = slot-in-use (length file) d addresses a (record { 0 = e }) l h
 
+  -- an entry that is not its extension's first starts behind the one before it
+  in-turn : (e : ℕ) → suc e ≤ n → (place (suc e) ≡ 1 → ⊥) → end e ≤ start (suc e)
+  in-turn e h f = let q : suc e - 1 ≡ e = omega arith in rw q at (all (suc e) (omega arith) h .next f)
+
   -- two entries of which the extension of one holds the other stand in one extension, as far apart as their numbers
   same-extension : (e f : ℕ) → 1 ≤ e → e ≤ n → 1 ≤ f → f ≤ n → totalOf (growthIn d) (extension f - 1) < e → e ≤ totalOf (growthIn d) (extension f) → extension e ≡ extension f
   same-extension e f l h m o p q =
@@ -72,9 +71,7 @@ module _ (file : List ℕ) (d : DescriptorNumbers) (addresses : List RecordNumbe
       let low : 1 ≤ e = omega (arith, r .number) in
       let high : e ≤ n = omega arith in
       let x = same-extension e (suc e) low high l h (omega (arith, r .number)) (omega (arith, r .held .reached)) in
-      let q : suc e - 1 ≡ e = omega arith in
-      let next = rw q at (all (suc e) l h .next (λ (z : place (suc e) ≡ 1). omega arith)) in
-      omega (arith, ap (areaEndOf d addresses) x, after-area e low high, next))
+      omega (arith, ap (areaEndOf d addresses) x, after-area e low high, in-turn e h (λ (z : place (suc e) ≡ 1). omega arith)))
 
   -- an area starts before a later one
   start-le : (j k : ℕ) → 1 ≤ j → j ≤ k → k ≤ d .nex → areaStartOf d addresses j ≤ areaStartOf d addresses k
@@ -96,8 +93,7 @@ module _ (file : List ℕ) (d : DescriptorNumbers) (addresses : List RecordNumbe
       let high : suc e ≤ n = omega (arith, r .number, total-le g (extension e) (d .nex - 1) (omega arith)) in
       let same = same-extension (suc e) e (omega arith) high l h (omega (arith, r .held .behind)) (omega (arith, r .number)) in
       let places = place-next (suc e) e (omega arith) high l h same in
-      let q : suc e - 1 ≡ e = omega arith in
-      let next = rw q at (all (suc e) (omega arith) high .next (λ (z : place (suc e) ≡ 1). omega (arith, r .counted))) in
+      let next = in-turn e high (λ (z : place (suc e) ≡ 1). omega (arith, r .counted)) in
       omega (arith, next, before-area left (suc e) k (omega arith) high (omega (arith, ap (capacityOf g) same)) (omega arith) m)
 
   before-later : (e k : ℕ) → 1 ≤ e → e ≤ n → extension e < k → k ≤ d .nex → end e ≤ areaStartOf d addresses k
@@ -116,7 +112,6 @@ module _ (file : List ℕ) (d : DescriptorNumbers) (addresses : List RecordNumbe
   entry-next e l h =
       let r = stands (suc e) (omega arith) h in
       let s = stands e l (omega arith) in
-      let q : suc e - 1 ≡ e = omega arith in
       split (place (suc e)) 1
       (λ p.
       split (extension (suc e)) (extension e)
@@ -127,32 +122,20 @@ module _ (file : List ℕ) (d : DescriptorNumbers) (addresses : List RecordNumbe
         area-holds (length file) d addresses a (extension (suc e)) (r .held .counted) (r .used),
         after-area (suc e) (omega arith) h,
       )))
-      (λ p. rw q at (all (suc e) (omega arith) h .next (λ (z : place (suc e) ≡ 1). omega arith)))
-
-  entries-from : (m e : ℕ) → 1 ≤ e → suc (e + m) ≤ n → end e ≤ start (suc (e + m))
-  entries-from zero e l h = let q : e + 0 ≡ e = omega arith in rw q (entry-next e l (omega arith))
-  entries-from (suc m) e l h =
-      let q : e + suc m ≡ suc (e + m) = omega arith in
-      rw q (omega (arith, entries-from m e l (omega arith), entry-next (suc (e + m)) (omega arith) (omega arith)))
+      (λ p. in-turn e h (λ (z : place (suc e) ≡ 1). omega arith))
 
   entries-apart : (e f : ℕ) → 1 ≤ e → e < f → f ≤ n → end e ≤ start f
-  entries-apart e f l h m = let q : suc (e + (f - suc e)) ≡ f = omega arith in (rw q at (entries-from (f - suc e) e l (omega arith)))
+  entries-apart e zero l h m = absurd (omega arith)
+  entries-apart e (suc f) l h m =
+      split f e
+      (λ p. let q : f ≡ e = omega arith in rw q (entry-next e l (omega arith)))
+      (λ p. omega (arith, entries-apart e f l p (omega arith), entry-next f (omega arith) m))
 
-  pub order-spread : Spread file d addresses
-  order-spread = record {
-    behind = λ e l h. opened-behind file d addresses a (record { 0 = e }) (all e l h .opens);
-    areas = entry-area;
-    entries = λ e f l h m. inl (entries-apart e f l h m);
-  }
+  order-spread : Spread file d addresses
+  order-spread = record { areas = entry-area; entries = λ e f l h m. inl (entries-apart e f l h m) }
 
 -- a file that passes the check is sound
 pub order-sound : (file : List ℕ) → checkOf file ≡ allPass → Sound file
 order-sound file c =
     let p = check-passed file c in
-    let d = numbersOf file in
-    let addresses = addressesOf file (d .nex) in
-    let a = file-admitted file (p .0) in
-    record {
-      admitted = p .0;
-      inside = record { opens = λ e l h. p .1 e l h .opens; apart = spread-apart file d addresses (length file) a (order-spread file d addresses a (p .1)) };
-    }
+    sound-shown (answer-numbers file (p .0)) (λ e l h. p .1 e l h .opens) (order-spread file _ _ (file-admitted file (p .0)) (p .1))

@@ -10,12 +10,22 @@ use lib.IntN.{ℤ, pos}
 use lib.ListN.{length, getD, take, drop, length-append}
 use lib.Seq.{drop-drop}
 use Rattle.image.specs.Image.{part}
+use Rattle.geometry.specs.declared.units.RecordNumber.{RecordNumber}
 use Rattle.geometry.specs.declared.units.EntryNumber.{EntryNumber}
+use Rattle.descriptor.specs.declared.numbers.DescriptorNumbers.{DescriptorNumbers}
+use Rattle.descriptor.specs.declared.validating.Validation.{Validation}
+use Rattle.descriptor.specs.Answers.{validatedCase}
 use Rattle.entry.specs.declared.answers.Opened.{Opened}
-use Rattle.entry.specs.Answers.{openOf, openCase, pieceFrom, bytesOf, indexWordsOf, dataWordsOf}
-use Rattle.writer.specs.Handed.{wordsOf, sumOf}
-use Rattle.promises.specs.Contents.{entriesOf, openedIn, startIn, inOrder, Section, pieceAt, sectionRead, contentRead, holds, refused, readingOf, contents}
+use Rattle.entry.specs.Answers.{openOf, openCase}
+use Rattle.handing.specs.Parts.{pieceFrom, bytesOf, indexWordsOf, dataWordsOf}
+use Rattle.storing.specs.Handed.{wordsOf, sumOf}
+use Rattle.written.proofs.ReadBack.{Validates}
+use Rattle.promises.specs.Contents.{numbersIn, entriesOf, openedIn, startIn, inOrder, Section, pieceAt, sectionRead, contentRead, holds, refused, readingOf, contents}
 use Rattle.promises.specs.Calls.{sectionsCut}
+
+-- the numbers of a file that validates are those that it validates with
+pub numbers-shown : (file : List ℕ) {d : DescriptorNumbers} {addresses : List RecordNumber} → Validates file d addresses → numbersIn file ≡ d
+numbers-shown file shown = ap (λ (v : Validation). validatedCase (v .numbers) .numbers) shown
 
 -- ---- f 1, .., f n
 
@@ -26,7 +36,7 @@ inOrder-same {A} f g (suc n) e =
     ap₂ (λ (l : List A) (y : A). l ++ (y ∷ [])) (inOrder-same f g n (λ k l h. e k l (omega arith))) (e (suc n) (omega arith) (omega arith))
 
 -- there are n of them
-pub inOrder-length : {A : Type 0} (f : ℕ → A) (n : ℕ) → length (inOrder f n) ≡ n
+inOrder-length : {A : Type 0} (f : ℕ → A) (n : ℕ) → length (inOrder f n) ≡ n
 inOrder-length f zero = refl
 inOrder-length f (suc n) = length-append (inOrder f n) (f (suc n) ∷ []) ∙ omega (arith, inOrder-length f n)
 
@@ -80,10 +90,6 @@ part-later : (bytes : List ℕ) (k s n : ℕ) → part bytes (4 * (k + s)) n ≡
 unfolding part
 part-later bytes k s n = let q : 4 * k + 4 * s ≡ 4 * (k + s) = omega arith in ap (take n) (sym (drop-drop (4 * s) (4 * k) bytes ∙ ap (λ (m : ℕ). drop m bytes) q))
 
-first-section : (z n : ℤ) (ids lengths : List ℤ) (bytes : List ℕ) → sectionAt (z ∷ ids) (n ∷ lengths) bytes 0 ≡ record { identifier = z; bytes = take (4 * wordsOf n) bytes }
-unfolding part
-first-section z n ids lengths bytes = refl
-
 later-section : (z n : ℤ) (ids lengths : List ℤ) (bytes : List ℕ) (i : ℕ)
     → sectionAt (z ∷ ids) (n ∷ lengths) bytes (suc i) ≡ sectionAt ids lengths (drop (4 * wordsOf n) bytes) i
 later-section z n ids lengths bytes i =
@@ -93,14 +99,13 @@ later-section z n ids lengths bytes i =
 -- sections that are read where the lengths before them end are the sections as they were handed in
 pub cut-read : (read : ℕ → Section) (ids lengths : List ℤ) (bytes : List ℕ) → length lengths ≡ length ids
     → ((k : ℕ) → 1 ≤ k → k ≤ length ids → read k ≡ sectionAt ids lengths bytes (k - 1)) → inOrder read (length ids) ≡ sectionsCut ids lengths bytes
+unfolding part
 cut-read read [] lengths bytes p e = refl
 cut-read read (z ∷ ids) [] bytes p e = absurd (omega arith)
 cut-read read (z ∷ ids) (n ∷ lengths) bytes p e =
     inOrder-first read (length ids)
-    ∙ ap₂ (λ (s : Section) (l : List Section). s ∷ l)
-    (e 1 (omega arith) (omega arith) ∙ first-section z n ids lengths bytes)
+    ∙ ap₂ (λ (s : Section) (l : List Section). s ∷ l) (e 1 (omega arith) (omega arith))
     (cut-read (λ k. read (suc k)) ids lengths (drop (4 * wordsOf n) bytes) (omega arith)
-    (λ k l h. e (suc k) (omega arith) (omega arith) ∙ at k l ∙ later-section z n ids lengths bytes (k - 1)))
-  where
-    at : (k : ℕ) → 1 ≤ k → sectionAt (z ∷ ids) (n ∷ lengths) bytes (suc k - 1) ≡ sectionAt (z ∷ ids) (n ∷ lengths) bytes (suc (k - 1))
-    at k l = let q : suc k - 1 ≡ suc (k - 1) = omega arith in ap (sectionAt (z ∷ ids) (n ∷ lengths) bytes) q
+    (λ k l h.
+    let q : suc k - 1 ≡ suc (k - 1) = omega arith in
+    e (suc k) (omega arith) (omega arith) ∙ ap (sectionAt (z ∷ ids) (n ∷ lengths) bytes) q ∙ later-section z n ids lengths bytes (k - 1)))

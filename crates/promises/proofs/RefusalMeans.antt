@@ -22,22 +22,21 @@ use Rattle.descriptor.specs.Rules.{fileRefusal}
 use Rattle.descriptor.specs.Answers.{noValidation, validationOf, extensionIn, extensionOf}
 use Rattle.descriptor.proofs.Refusals.{refusal-is, refusal-given, refusal-none, all-hold, refusal-append}
 use Rattle.descriptor.proofs.Answered.{answer-numbers, answer-refused}
+use Rattle.pieces.specs.Tables.{sectionNamed}
 use Rattle.entry.specs.declared.entered.Entered.{Entered}
 use Rattle.entry.specs.declared.answers.Opened.{Opened}
-use Rattle.entry.specs.declared.answers.PartPlace.{PartPlace}
-use Rattle.entry.specs.Tables.{sectionNamed}
 use Rattle.entry.specs.Opening.{entryRefusal, enteredOf, notEntered}
-use Rattle.entry.specs.Answers.{enteredIn, openedAs, openOf, openCase, noPart, pieceFrom}
-use Rattle.entry.specs.Answers.{indexPart, sectionPart, dataPart, partIn, indexWordsOf, sectionWordsOf, dataWordsOf}
+use Rattle.entry.specs.Answers.{enteredIn, openedAs, openOf, openCase}
 use Rattle.entry.proofs.Entering.{entered-refusal}
+use Rattle.handing.specs.declared.place.PartPlace.{PartPlace}
+use Rattle.handing.specs.Parts.{noPart, pieceFrom, indexPart, sectionPart, dataPart, partIn, indexWordsOf, sectionWordsOf, dataWordsOf}
 use Rattle.writer.specs.declared.inner.AppendedFrom.{AppendedFrom}
-use Rattle.writer.specs.Handed.{Handed}
+use Rattle.storing.specs.Handed.{Handed}
 use Rattle.writer.specs.Rules.{appendRules, appendRefusal}
 use Rattle.writer.specs.Answers.{acceptedFrom, refusedFrom, appendedFrom, appendIn, appendOf}
 use Rattle.writer.specs.Creation.{creationRefusal}
 use Rattle.outcome.proofs.Either.{either}
-use Rattle.promises.specs.Tables.{extensionRows, entryRows, sectionRows, Exactly}
-use Rattle.promises.specs.Tables.{validateTests, createTests, extensionTests, openTests, sectionTests, appendTests}
+use Rattle.promises.specs.Tables.{extensionRows, entryRows, sectionRows, Exactly, validateTests, createTests, extensionTests, openTests, sectionTests, appendTests}
 
 -- ---- any table
 
@@ -124,6 +123,7 @@ module _ (file : List ℕ) where
     abbrev entry : Entered
     entry = enteredOf file d addresses e
 
+    -- the refusal of entry e is by its rows
     pub entry-number : entry .refusal ≡ refusalIn (entryRows file e)
     unfolding entryRefusal
     entry-number = entered-refusal file d addresses e

@@ -18,14 +18,14 @@ use Rattle.descriptor.specs.declared.validating.Validated.{Validated}
 use Rattle.descriptor.specs.declared.validating.Validated.the-variants.{Numbers, Refused}
 use Rattle.descriptor.specs.Rules.{fileRefusal}
 use Rattle.descriptor.specs.Answers.{noValidation, validationOf, noExtension, extensionIn, extensionOf}
+use Rattle.pieces.specs.Tables.{sectionNamed, noSections}
 use Rattle.entry.specs.declared.entered.Entered.{Entered}
 use Rattle.entry.specs.declared.answers.Open.the-variants as answers
-use Rattle.entry.specs.declared.answers.PartPlace.{PartPlace}
-use Rattle.entry.specs.Tables.{sectionNamed}
 use Rattle.entry.specs.Opening.{enteredOf}
-use Rattle.entry.specs.Answers.{enteredIn, noSections, openedAs, openOf, openCase, noPart, bytesOf}
-use Rattle.entry.specs.Answers.{indexPart, sectionPart, dataPart, partIn, indexWordsOf, sectionWordsOf, dataWordsOf}
-use Rattle.writer.specs.Handed.{Handed}
+use Rattle.entry.specs.Answers.{enteredIn, openedAs, openOf, openCase}
+use Rattle.handing.specs.declared.place.PartPlace.{PartPlace}
+use Rattle.handing.specs.Parts.{noPart, bytesOf, indexPart, sectionPart, dataPart, partIn, indexWordsOf, sectionWordsOf, dataWordsOf}
+use Rattle.storing.specs.Handed.{Handed}
 use Rattle.writer.specs.Rules.{appendRefusal}
 use Rattle.writer.specs.Answers.{appendedFrom, fileFrom, appendIn, fileIn, appendOf, fileAfter}
 use Rattle.writer.specs.Creation.{creationRefusal, createdFile}
@@ -69,41 +69,32 @@ unfolding partIn
 in-file (Refused n) f each g = refl
 in-file (Numbers d) f each g = each d g
 
-module _ (file : List ℕ) (addresses : List RecordNumber) (e : EntryNumber) (d : DescriptorNumbers) where
-  abbrev entry : Entered
-  entry = enteredOf file d addresses e
-
-  index-empty : Empty (indexPart file d addresses e)
-  unfolding indexPart
-  index-empty f = either (eqb (entry .refusal) 0) (λ q. absurd (f (rw q))) (λ q. rw q)
-
-  section-empty : (identifier : ℤ) → Empty (sectionPart file d addresses e identifier)
-  unfolding sectionPart
-  section-empty identifier f =
-      either (eqb (entry .refusal) 0)
-      (λ p. either (ltb (sectionNamed file (entry .start) identifier 0 (entry .nsec)) (entry .nsec)) (λ q. absurd (f (rw (p, q)))) (λ q. rw (p, q)))
-      (λ p. rw p)
-
-  data-empty : Empty (dataPart file d addresses e)
-  unfolding dataPart
-  data-empty f =
-      either (eqb (entry .refusal) 0)
-      (λ p. absurd (f (either (eqb (entry .array .words) 0) (λ q. rw (p, q)) (λ q. rw (p, q)))))
-      (λ p. rw p)
-
 module _ (file : List ℕ) (e : EntryNumber) where
+  -- the entry that a part is of
+  abbrev entry : DescriptorNumbers → Entered
+  entry d = enteredOf file d (validationOf file .addresses) e
+
   -- refused index words: the number, and the empty part
   pub index-words-refused : (indexWordsOf file e .refusal ≡ 0 → ⊥) → indexWordsOf file e ≡ noPart (indexWordsOf file e .refusal)
-  index-words-refused = in-file (validationOf file .numbers) _ (index-empty file (validationOf file .addresses) e)
+  unfolding indexPart
+  index-words-refused = in-file (validationOf file .numbers) _ (λ d f. either (eqb (entry d .refusal) 0) (λ q. absurd (f (rw q))) (λ q. rw q))
 
   -- a refused section likewise
   pub section-refused : (identifier : ℤ) → (sectionWordsOf file e identifier .refusal ≡ 0 → ⊥)
       → sectionWordsOf file e identifier ≡ noPart (sectionWordsOf file e identifier .refusal)
-  section-refused identifier = in-file (validationOf file .numbers) _ (λ d. section-empty file (validationOf file .addresses) e d identifier)
+  unfolding sectionPart
+  section-refused identifier =
+      in-file (validationOf file .numbers) _
+      (λ d f. either (eqb (entry d .refusal) 0)
+      (λ p. either (ltb (sectionNamed file (entry d .start) identifier 0 (entry d .nsec)) (entry d .nsec)) (λ q. absurd (f (rw (p, q)))) (λ q. rw (p, q)))
+      (λ p. rw p))
 
   -- and refused data
   pub data-refused : (dataWordsOf file e .refusal ≡ 0 → ⊥) → dataWordsOf file e ≡ noPart (dataWordsOf file e .refusal)
-  data-refused = in-file (validationOf file .numbers) _ (data-empty file (validationOf file .addresses) e)
+  unfolding dataPart
+  data-refused =
+      in-file (validationOf file .numbers) _
+      (λ d f. either (eqb (entry d .refusal) 0) (λ p. absurd (f (either (eqb (entry d .array .words) 0) (λ q. rw (p, q)) (λ q. rw (p, q))))) (λ p. rw p))
 
 -- a refused part has no bytes
 pub part-empty : (file : List ℕ) (n : ℕ) → bytesOf file (noPart n) ≡ []

@@ -1,33 +1,29 @@
 -- Demand 3. From a sound file, after any series of calls, accepted or refused: going through the numbers gives the starting entries and then every accepted one,
 -- once, in order, unchanged; every starting entry is as it was; the k-th accepted call answers n + k; and the file is sound again. Assumes nothing.
 use Prim.Native.Nat.{ℕ, _+_, _≤_}
-use mathlib.Core.Path.{_≡_, refl, sym, ap, subst, _∙_}
+use mathlib.Core.Path.{_≡_, refl, sym, ap, _∙_}
 use mathlib.Core.Bool.{Bool, true, false, cond}
 use mathlib.Core.List.{List, [], _∷_, _++_, append-assoc, append-nil}
 use native.Mathlib.Omega.{arith}
-use borrow.Author.Tests.{eqb-true, eqb-false}
+use borrow.Author.Tests.{eqb-true}
 use lib.Dec.{eqb}
 use lib.ListN.{length, length-append}
 use Rattle.geometry.specs.declared.units.EntryNumber.{EntryNumber}
 use Rattle.geometry.specs.Units.{entriesBefore}
-use Rattle.descriptor.specs.declared.validating.Validation.{Validation}
 use Rattle.descriptor.specs.FirstRecord.{numbersOf}
-use Rattle.descriptor.specs.Answers.{validatedCase}
 use Rattle.descriptor.proofs.Answered.{answer-numbers, file-admitted}
-use Rattle.writer.specs.Handed.{Handed, Integers}
+use Rattle.storing.specs.Handed.{Handed, Integers}
 use Rattle.writer.specs.Answers.{appendOf, fileAfter}
-use Rattle.outcome.proofs.Either.{either}
 use Rattle.promises.specs.Contents.{entriesOf, Reading, holds, contents, Unchanged}
 use Rattle.promises.specs.Calls.{Call, append, Fits, AllFit, Answer, answerOf, afterCall, run, answers, handedContent, added, contentsAfter, contentsAfterAll, accepted, numbersGiven, following}
 use Rattle.promises.specs.Regions.{Sound}
-use Rattle.promises.proofs.Readings.{length-contents}
-use Rattle.promises.proofs.AppendNumbers.{refusalThere, answer-there, number-there}
-use Rattle.promises.proofs.RefusedAnswers.{append-kept}
+use Rattle.promises.proofs.Readings.{numbers-shown, length-contents}
+use Rattle.promises.proofs.AppendNumbers.{answer-there, number-there, by-answer}
 use Rattle.promises.proofs.AppendAdds.{append-sound, append-stays, append-contents}
 
 -- the entries of an admitted file
 pub entries-shown : (file : List ℕ) → Sound file → entriesOf file ≡ entriesBefore (numbersOf file .xnext)
-entries-shown file s = ap (λ (v : Validation). entriesBefore (validatedCase (v .numbers) .numbers .xnext)) (answer-numbers file (s .admitted))
+entries-shown file s = rw (numbers-shown file (answer-numbers file (s .admitted)))
 
 -- an entry of a file is unchanged in it, and stays so from file to file
 unchanged-self : (file : List ℕ) (e : EntryNumber) → Unchanged file file e
@@ -44,47 +40,34 @@ unchanged-on p q = record {
 
 -- ---- one call
 
-module _ (file : List ℕ) (s : Sound file) (h : Handed) (g : Integers h) where
-  -- accepted, or refused
-  by-answer {ℓ} : {X : Type ℓ} → (refusalThere file h ≡ 0 → eqb (appendOf file h .refusal) 0 ≡ true → X) → (fileAfter file h ≡ file → eqb (appendOf file h .refusal) 0 ≡ false → X) → X
-  by-answer f k =
-      either (eqb (appendOf file h .refusal) 0)
-      (λ q. f (sym (answer-there file h (s .admitted)) ∙ eqb-true (appendOf file h .refusal) 0 q) q)
-      (λ q. k (append-kept file h (eqb-false (appendOf file h .refusal) 0 q)) q)
-
-  sound-append : Sound (fileAfter file h)
-  sound-append = by-answer (λ a q. append-sound file h g s a) (λ same q. subst Sound (sym same) s)
-
-  contents-append : contents (fileAfter file h) ≡ contents file ++ cond (eqb (appendOf file h .refusal) 0) (holds (handedContent h) ∷ []) []
-  contents-append =
-      by-answer
-      (λ a q. rw q (append-contents file h g s a))
-      (λ same q. rw q (ap contents same ∙ sym (append-nil (contents file))))
-
-  stays-append : (e : ℕ) → 1 ≤ e → e ≤ entriesOf file → Unchanged file (fileAfter file h) (record { 0 = e })
-  stays-append e l m =
-      by-answer
-      (λ a q. append-stays file h g s a e l (omega (arith, entries-shown file s)))
-      (λ same q. subst (λ (f : List ℕ). Unchanged file f (record { 0 = e })) (sym same) (unchanged-self file (record { 0 = e })))
-
-  -- an accepted one answers n + 1
-  number-append : eqb (appendOf file h .refusal) 0 ≡ true → appendOf file h .number .0 ≡ entriesOf file + 1
-  number-append q =
-      let z = s .admitted in
-      let a = sym (answer-there file h z) ∙ eqb-true (appendOf file h .refusal) 0 q in
-      omega (arith, entries-shown file s, ap (λ (n : EntryNumber). n .0) (number-there file h z a), file-admitted file z .counted)
-
 -- the file is sound again
-pub step-sound : (file : List ℕ) → Sound file → (c : Call) → Fits c → Sound (afterCall file c)
-step-sound file s (append h) g = sound-append file s h g
+step-sound : (file : List ℕ) → Sound file → (c : Call) → Fits c → Sound (afterCall file c)
+step-sound file s (append h) g = by-answer file h (s .admitted) (λ a q. append-sound file h g s a) (λ same q. rw same s)
 
--- its contents are those that the call leaves
-pub step-contents : (file : List ℕ) → Sound file → (c : Call) → Fits c → contents (afterCall file c) ≡ contentsAfter c (answerOf file c) (contents file)
+-- an append adds what was handed in where it is accepted, and nothing where it is refused
+contents-append : (file : List ℕ) → Sound file → (h : Handed) → Integers h → contents (fileAfter file h) ≡ contents file ++ cond (eqb (appendOf file h .refusal) 0) (holds (handedContent h) ∷ []) []
+contents-append file s h g =
+    by-answer file h (s .admitted)
+    (λ a q. rw q (append-contents file h g s a))
+    (λ same q. rw q (ap contents same ∙ sym (append-nil (contents file))))
+
+-- so its contents are those that the call leaves
+step-contents : (file : List ℕ) → Sound file → (c : Call) → Fits c → contents (afterCall file c) ≡ contentsAfter c (answerOf file c) (contents file)
 step-contents file s (append h) g = contents-append file s h g
 
 -- and its entries are as they were
-pub step-stays : (file : List ℕ) → Sound file → (c : Call) → Fits c → (e : ℕ) → 1 ≤ e → e ≤ entriesOf file → Unchanged file (afterCall file c) (record { 0 = e })
-step-stays file s (append h) g = stays-append file s h g
+step-stays : (file : List ℕ) → Sound file → (c : Call) → Fits c → (e : ℕ) → 1 ≤ e → e ≤ entriesOf file → Unchanged file (afterCall file c) (record { 0 = e })
+step-stays file s (append h) g e l m =
+    by-answer file h (s .admitted)
+    (λ a q. append-stays file h g s a e l (omega (arith, entries-shown file s)))
+    (λ same q. rw same (unchanged-self file (record { 0 = e })))
+
+-- an accepted append answers n + 1
+number-append : (file : List ℕ) → Sound file → (h : Handed) → eqb (appendOf file h .refusal) 0 ≡ true → appendOf file h .number .0 ≡ entriesOf file + 1
+number-append file s h q =
+    let z = s .admitted in
+    let a = sym (answer-there file h z) ∙ eqb-true (appendOf file h .refusal) 0 q in
+    omega (arith, entries-shown file s, ap (λ (n : EntryNumber). n .0) (number-there file h z a), file-admitted file z .counted)
 
 -- ---- a series of calls
 
@@ -113,7 +96,7 @@ after-accepted (append h ∷ cs) (a ∷ given) readings =
 step-count : (file : List ℕ) → Sound file → (c : Call) → Fits c → entriesOf (afterCall file c) ≡ entriesOf file + length (added c (answerOf file c))
 step-count file s (append h) g =
     sym (length-contents (fileAfter file h))
-    ∙ ap length (contents-append file s h g)
+    ∙ ap length (step-contents file s (append h) g)
     ∙ length-append (contents file) (added (append h) (answerOf file (append h)))
     ∙ ap (λ (n : ℕ). n + length (added (append h) (answerOf file (append h)))) (length-contents file)
 
@@ -138,5 +121,5 @@ run-numbers [] g file s = refl
 run-numbers (append h ∷ cs) g file s =
     let next = fileAfter file h in
     given-next (eqb (appendOf file h .refusal) 0) (appendOf file h .number .0) (entriesOf file) (entriesOf next) (numbersGiven (answers cs next))
-    (holds (handedContent h)) (accepted cs (answers cs next)) (number-append file s h (g .0)) (step-count file s (append h) (g .0))
-    (run-numbers cs (g .1) next (sound-append file s h (g .0)))
+    (holds (handedContent h)) (accepted cs (answers cs next)) (number-append file s h) (step-count file s (append h) (g .0))
+    (run-numbers cs (g .1) next (step-sound file s (append h) (g .0)))

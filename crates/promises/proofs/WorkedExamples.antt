@@ -11,16 +11,18 @@ use Rattle.descriptor.specs.FirstRecord.{fileCodeOf, field4, field8, numbersOf,
 use Rattle.descriptor.specs.Areas.{areaAfter, areasStart, areasEnd}
 use Rattle.descriptor.specs.Rules.{entriesFit, fileRefusal}
 use Rattle.descriptor.specs.Answers.{validationOf}
-use Rattle.entry.specs.EntryDescriptor.{entryCodeOf, word4, word8, sectionOf, dataOf}
-use Rattle.entry.specs.Contents.{pieceWithin, dataWithin, sectionsWithin, apart, apartFrom, sectionsApart, dataApart}
-use Rattle.entry.specs.Tables.{sectionIdentifiers, sectionLengths, sectionAddresses, sectionsOf, sameInteger, sectionNamed}
+use Rattle.pieces.specs.EntryDescriptor.{entryCodeOf, word4, word8, sectionOf, dataOf}
+use Rattle.pieces.specs.Contents.{pieceWithin, dataWithin, sectionsWithin, apart, apartFrom, sectionsApart, dataApart}
+use Rattle.pieces.specs.Tables.{sectionIdentifiers, sectionLengths, sectionAddresses, sectionsOf, sameInteger, sectionNamed}
 use Rattle.entry.specs.Opening.{placeStored, slotPositionOf, entryRefusal, enteredOf}
-use Rattle.entry.specs.Answers.{enteredIn, openedAs, openOf, sectionPart, dataPart, partIn}
-use Rattle.writer.specs.Creation.{firstWritten, creationRefusal, createdFile}
-use Rattle.writer.specs.Handed.{absent, distinct, positive}
-use Rattle.writer.specs.Placing.{full, newArea, afterNewArea, entryStart, nexAfter, numbersAfter, addressesAfter}
+use Rattle.entry.specs.Answers.{enteredIn, openedAs, openOf}
+use Rattle.handing.specs.Parts.{sectionPart, dataPart, partIn}
+use Rattle.fields.specs.FieldWrites.{firstWritten}
+use Rattle.writer.specs.Creation.{creationRefusal, createdFile}
+use Rattle.storing.specs.Handed.{absent, distinct, positive}
+use Rattle.placing.specs.Placing.{full, newArea, afterNewArea, entryStart, nexAfter, numbersAfter, addressesAfter}
 use Rattle.writer.specs.Rules.{appendRefusal}
-use Rattle.writer.specs.Writing.{headFrom, areaWritten, entryWritten, indexWritten, appended}
+use Rattle.storing.specs.Writing.{headFrom, areaWritten, entryWritten, indexWritten, appended}
 use Rattle.writer.specs.Answers.{appendedFrom, fileFrom, appendIn, fileIn}
 use Rattle.promises.specs.FileA.{A}
 use Rattle.promises.specs.Examples.{AllMatch, examples, entry, withSection, withoutSection, Differ}

@@ -10,8 +10,8 @@ use Rattle.geometry.specs.Units.{offsetOf, firstRecordOffsetOf}
 use Rattle.descriptor.specs.declared.numbers.DescriptorNumbers.{DescriptorNumbers}
 use Rattle.descriptor.specs.FirstRecord.{freeOf}
 use Rattle.entry.specs.Opening.{slotPositionOf}
-use Rattle.writer.specs.Handed.{Handed, nwordIn}
-use Rattle.writer.specs.Placing.{full, entryStart, numbersAfter, addressesAfter}
+use Rattle.storing.specs.Handed.{Handed, nwordIn}
+use Rattle.placing.specs.Placing.{full, entryStart, numbersAfter, addressesAfter}
 
 -- the byte at offset i; 0 past the file's end
 abbrev pub byteAt : List ℕ → ℕ → ℕ

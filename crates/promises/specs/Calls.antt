@@ -7,7 +7,7 @@ use lib.IntN.{ℤ}
 use lib.ListN.{take, drop}
 use Rattle.geometry.specs.Units.{offsetOf}
 use Rattle.writer.specs.declared.appending.Appended.{Appended}
-use Rattle.writer.specs.Handed.{Handed, Integers, wordsOf}
+use Rattle.storing.specs.Handed.{Handed, Integers, wordsOf}
 use Rattle.writer.specs.Answers.{appendOf, fileAfter}
 use Rattle.promises.specs.Contents.{Section, Content, Reading, holds}
 
@@ -19,14 +19,16 @@ pub data Call : Type 0 where
 abbrev pub Fits : Call → Type 0
 Fits (append h) = Integers h
 
+-- so are those of all of a series of calls
 abbrev pub AllFit : List Call → Type 0
 AllFit [] = Unit
 AllFit (c ∷ cs) = Fits c × AllFit cs
 
--- what a call answers
+-- an answer of a call
 pub data Answer : Type 0 where
   appended : Appended → Answer
 
+-- what a call answers
 abbrev pub answerOf : List ℕ → Call → Answer
 answerOf file (append h) = appended (appendOf file h)
 

@@ -11,23 +11,26 @@ use Rattle.geometry.specs.declared.units.EntryNumber.{EntryNumber}
 use Rattle.geometry.specs.Units.{positionOf, offsetOf, entriesBefore}
 use Rattle.descriptor.specs.declared.numbers.DescriptorNumbers.{DescriptorNumbers}
 use Rattle.descriptor.specs.Answers.{validationOf, validatedCase}
-use Rattle.entry.specs.declared.contents.Piece.{Piece}
+use Rattle.pieces.specs.declared.contents.Piece.{Piece}
+use Rattle.pieces.specs.Tables.{sameInteger}
 use Rattle.entry.specs.declared.answers.OpenCase.{OpenCase}
-use Rattle.entry.specs.Tables.{sameInteger}
 use Rattle.entry.specs.Opening.{slotPositionOf}
-use Rattle.entry.specs.Answers.{openOf, openCase, pieceFrom, bytesOf, indexWordsOf, sectionWordsOf, dataWordsOf}
+use Rattle.entry.specs.Answers.{openOf, openCase}
+use Rattle.handing.specs.Parts.{pieceFrom, bytesOf, indexWordsOf, sectionWordsOf, dataWordsOf}
 
--- the numbers of a file as validating gives them, zeros for a refused file; and how many entries it has
+-- the numbers of a file as validating gives them, zeros for a refused file
 abbrev pub numbersIn : List ℕ → DescriptorNumbers
 numbersIn file = validatedCase (validationOf file .numbers) .numbers
 
+-- how many entries it has
 abbrev pub entriesOf : List ℕ → ℕ
 entriesOf file = entriesBefore (numbersIn file .xnext)
 
--- the numbers of entry e as opening gives them, zeros for a refused entry; and the position where it starts
+-- the numbers of entry e as opening gives them, zeros for a refused entry
 abbrev pub openedIn : List ℕ → EntryNumber → OpenCase
 openedIn file e = openCase (openOf file e .answer)
 
+-- the position where it starts
 abbrev pub startIn : List ℕ → EntryNumber → ℕ
 startIn file e = positionOf (numbersIn file .reclen) (openedIn file e .place .«record») (openedIn file e .place .word)
 
@@ -75,11 +78,12 @@ contentRead file e = record {
 
 -- ---- what a file holds
 
--- what a reader finds under a number: an entry that opens, or a refusal
+-- what can be found under a number: an entry that opens, or a refusal
 pub data Reading : Type 0 where
   holds : Content → Reading
   refused : ℕ → Reading
 
+-- what a reader finds under a number
 unfoldable pub readingOf : List ℕ → EntryNumber → Reading
 readingOf file e = cond (eqb (openedIn file e .refusal) 0) (holds (contentRead file e)) (refused (openedIn file e .refusal))
 
@@ -111,10 +115,11 @@ sectionFound file e z =
 abbrev pub slotIn : List ℕ → EntryNumber → ℕ
 slotIn file e = slotPositionOf (numbersIn file) (validationOf file .addresses) e
 
--- the bytes of its slot, and of all its words
+-- the bytes of its slot
 unfoldable pub slotBytes : List ℕ → EntryNumber → List ℕ
 slotBytes file e = part file (offsetOf (slotIn file e)) (offsetOf (numbersIn file .lind))
 
+-- and of all its words
 unfoldable pub entryBytes : List ℕ → EntryNumber → List ℕ
 entryBytes file e = part file (offsetOf (startIn file e)) (offsetOf (openedIn file e .nword))
 

@@ -21,10 +21,12 @@ use Rattle.descriptor.specs.Rules.{settingRules, fillingRules, fileRefusal}
 use Rattle.descriptor.specs.Answers.{validationOf}
 use Rattle.entry.specs.declared.answers.Open.{Open}
 use Rattle.entry.specs.declared.answers.Open.the-variants.{Numbers}
-use Rattle.entry.specs.declared.answers.PartPlace.{PartPlace}
 use Rattle.entry.specs.Opening.{slotPositionOf}
-use Rattle.entry.specs.Answers.{openOf, openCase, sectionWordsOf, dataWordsOf, bytesOf}
-use Rattle.writer.specs.Creation.{firstWritten, creationRefusal}
+use Rattle.entry.specs.Answers.{openOf, openCase}
+use Rattle.handing.specs.declared.place.PartPlace.{PartPlace}
+use Rattle.handing.specs.Parts.{sectionWordsOf, dataWordsOf, bytesOf}
+use Rattle.fields.specs.FieldWrites.{firstWritten}
+use Rattle.writer.specs.Creation.{creationRefusal}
 use Rattle.writer.specs.Answers.{appendOf, fileAfter}
 use Rattle.promises.specs.Contents.{numbersIn, openedIn}
 use Rattle.promises.specs.Calls.{following}
@@ -70,10 +72,11 @@ Differ one other = (openCase one .nsec ≡ 1) × (openCase other .nsec ≡ 0) ×
 
 -- ---- what is looked at
 
--- the first place of an opened entry's tables: the section's identifier, and its address
+-- the first place of an opened entry's tables: the section's identifier
 abbrev pub identifierFirst : List ℕ → ℕ → ℤ
 identifierFirst file e = getD (openOf file (entry e) .sections .identifiers) 0 (pos 0)
 
+-- and its address
 abbrev pub addressFirst : List ℕ → ℕ → ℕ
 addressFirst file e = getD (openOf file (entry e) .sections .addresses) 0 (record { 0 = 0 }) .0
 
@@ -125,22 +128,25 @@ imageWith bytes s = firstWritten (zeros bytes) (createdOf s)
 abbrev pub crossing : DescriptorNumbers
 crossing = filled (settings 16 5 4 10) 5 4 1
 
--- P8: the areas of 4,096, 8,192 and 16,384 entries take 745, 1,490 and 2,979 records of 22 words. All are in use
+-- P8: the areas of 4,096, 8,192 and 16,384 entries take 745, 1,490 and 2,979 records of 22 words
 abbrev pub areas3 : List RecordNumber
 areas3 = aex 2 ∷ aex 747 ∷ aex 2237 ∷ []
 
+-- all of them are in use where nex is 3
 abbrev pub grown : ℕ → DescriptorNumbers
 grown nex = filled (settings 22 4 4096 20) 28673 5216 nex
 
--- P9: each of the 16 areas of 4,096 entries takes 357 records of 46 words. All are in use where xnext is 65,537
+-- P9: each of the 16 areas of 4,096 entries takes 357 records of 46 words
 abbrev pub areas16 : List RecordNumber
 areas16 = map (λ k. aex (2 + 357 * k)) (0 ∷ following 0 15)
 
+-- all of them are full where xnext is 65,537
 abbrev pub most : ℕ → DescriptorNumbers
 most xnext = filled (settings 46 4 4096 10) xnext 5714 16
 
 -- ---- the table
 
+-- every row, in the order of the cases
 unfoldable pub examples : List Row
 examples =
     -- file A: section 7 has address 17, data 20. The entry starts at record 3 word 1, so these are words 17 and 20 of that record

@@ -5,7 +5,7 @@ use lib.IntN.{pos}
 use Rattle.geometry.specs.Units.{offsetOf}
 use Rattle.descriptor.specs.declared.numbers.Settings.{Settings}
 use Rattle.writer.specs.Creation.{createdFile}
-use Rattle.writer.specs.Handed.{Handed, handedIn}
+use Rattle.storing.specs.Handed.{Handed, handedIn}
 use Rattle.writer.specs.Answers.{fileAfter}
 use Rattle.promises.specs.Calls.{following}
 
@@ -25,10 +25,11 @@ settings reclen lind lex1 gex = record {
 abbrev pub append1 : Handed
 append1 = handedIn (pos 1) (following 200 4) (pos 7 ∷ []) (pos 3 ∷ []) (following 0 12) (following 100 20)
 
--- appends (2) and (3): version 1, nothing else; one index word
+-- append (2): version 1, nothing else; one index word
 abbrev pub append2 : Handed
 append2 = handedIn (pos 1) (following 210 4) [] [] [] []
 
+-- append (3): the same, with other bytes in its index word
 abbrev pub append3 : Handed
 append3 = handedIn (pos 1) (following 220 4) [] [] [] []
 
@@ -36,16 +37,19 @@ append3 = handedIn (pos 1) (following 220 4) [] [] [] []
 abbrev pub lent : ℕ → List ℕ
 lent records = map (λ k. k % 255 + 1) (following 0 (offsetOf (20 * records)))
 
--- A of so many records of 20 words: created, and after each append
+-- A of so many records of 20 words, as it is created
 abbrev pub created : ℕ → List ℕ
 created records = createdFile (lent records) (settings 20 4 2 20)
 
+-- after append (1)
 abbrev pub after1 : ℕ → List ℕ
 after1 records = fileAfter (created records) append1
 
+-- after append (2)
 abbrev pub after2 : ℕ → List ℕ
 after2 records = fileAfter (after1 records) append2
 
+-- after append (3)
 abbrev pub after3 : ℕ → List ℕ
 after3 records = fileAfter (after2 records) append3
 

@@ -12,6 +12,7 @@ use Rattle.entry.specs.Opening.{entryRefusal, enteredOf}
 use Rattle.descriptor.specs.Areas.{areaStartOf, areaEndOf}
 use Rattle.entry.specs.Opening.{endOf}
 
+-- a region: the first record, an index area by its extension's number, or an entry by its number
 pub data Region : Type 0 where
   firstRecord : Region
   area : ℕ → Region
@@ -23,12 +24,13 @@ InUse d firstRecord = Unit
 InUse d (area k) = (1 ≤ k) × (k ≤ d .nex)
 InUse d (entry e) = (1 ≤ e) × (e ≤ entriesBefore (d .xnext))
 
--- the position of a region's first word, and the position behind its last
+-- the position of a region's first word
 unfoldable pub fromOf : List ℕ → DescriptorNumbers → List RecordNumber → Region → ℕ
 fromOf file d addresses firstRecord = 0
 fromOf file d addresses (area k) = areaStartOf d addresses k
 fromOf file d addresses (entry e) = enteredOf file d addresses (record { 0 = e }) .start
 
+-- and the position behind its last
 unfoldable pub toOf : List ℕ → DescriptorNumbers → List RecordNumber → Region → ℕ
 toOf file d addresses firstRecord = d .reclen
 toOf file d addresses (area k) = areaEndOf d addresses k

@@ -11,11 +11,11 @@ use Rattle.descriptor.specs.declared.numbers.Settings.{Settings}
 use Rattle.descriptor.specs.FirstRecord.{numbersOf, addressesOf, createdOf}
 use Rattle.descriptor.specs.Refusal.{Rule, row, Given, AllHold}
 use Rattle.descriptor.specs.Rules.{fileRules, creationRules}
-use Rattle.entry.specs.Tables.{sectionNamed}
+use Rattle.pieces.specs.Tables.{sectionNamed}
 use Rattle.entry.specs.Opening.{placeStored, slotPositionOf, entryRules, enteredOf}
 use Rattle.order.specs.declared.answers.Checked.{Checked}
 use Rattle.order.specs.Order.{orderRules, allPass}
-use Rattle.writer.specs.Handed.{Handed}
+use Rattle.storing.specs.Handed.{Handed}
 use Rattle.writer.specs.Rules.{appendRules}
 
 -- ---- the tables

@@ -1,11 +1,6 @@
-// The calls that read a file: a line of the call, the case's name and the answer.
+// The calls that read an entry, and the order check: a line of the call, the case's name and the answer.
 use super::printing::CHECK;
 use super::printing::DATA;
-use super::printing::DESCRIBE;
-use super::printing::DESCRIBE_END;
-use super::printing::DESCRIBE_ON;
-use super::printing::END;
-use super::printing::EXTENSION;
 use super::printing::INDEX;
 use super::printing::OPEN;
 use super::printing::OPEN_ON;
@@ -13,26 +8,21 @@ use super::printing::PART;
 use super::printing::PLACE;
 use super::printing::SECTION;
 use super::printing::TABLES;
-use super::printing::VALIDATE;
 use super::printing::WORD;
 use super::printing::WORDS;
+use super::printing::end;
 use super::printing::print;
 use super::reading::bytes_before;
 use super::reading::bytes_of;
 use classic::DataPlace;
-use classic::DescriptorNumbers;
 use classic::EntryNumber;
-use classic::ExtensionNumber;
 use classic::Open;
 use classic::Place;
-use classic::RecordNumber;
 use classic::Sections;
-use classic::Validated;
 use classic::check_order;
 use classic::data_array;
 use classic::data_array_place;
 use classic::data_array_refusal;
-use classic::extension_of;
 use classic::index_words;
 use classic::index_words_place;
 use classic::index_words_refusal;
@@ -40,7 +30,6 @@ use classic::open_entry;
 use classic::section;
 use classic::section_place;
 use classic::section_refusal;
-use classic::validate;
 ghost use Prim.Native.Nat.{_+_, _<_, _≤_};
 ghost use lib.ListN.{length};
 
@@ -52,73 +41,6 @@ fn wide(value: i32) -> u64 {
     } else {
         bits + 0xffff_ffff_0000_0000
     }
-}
-
-// Ends a line.
-pub(crate) fn end(name: &[u8]) {
-    print(END, 0, name, 0, 0, 0, 0);
-}
-
-// Validates a file: admitted, or the refusal.
-pub(crate) fn validated(name: &[u8], file: &[u8]) {
-    print(VALIDATE, validate(file).refusal as u64, name, 0, 0, 0, 0);
-}
-
-// Writes one of the 16 places of addresses.
-fn address(name: &[u8], table: [RecordNumber; 16], i: usize)
-    requires { ⌜ i < 16 ⌝ }
-{
-    let here = table[i];
-    print(WORD, 0, name, here.0, 0, 0, 0);
-}
-
-// Writes the 16 places of addresses.
-fn addresses(name: &[u8], table: [RecordNumber; 16]) {
-    for i in 0..16 {
-        address(name, table, i);
-    }
-    end(name);
-}
-
-// Writes the numbers of a descriptor.
-fn numbers(name: &[u8], d: DescriptorNumbers, table: [RecordNumber; 16]) {
-    print(DESCRIBE, 0, name, d.reclen, d.kind, d.vind, d.lind);
-    print(
-        DESCRIBE_ON,
-        0,
-        name,
-        d.flags,
-        d.xnext.0,
-        d.nextrec.0,
-        d.nextword.0,
-    );
-    print(DESCRIBE_END, 0, name, d.lex1, d.nex, d.gex, 0);
-    addresses(name, table);
-}
-
-// Validates a file and writes all its numbers.
-pub(crate) fn described(name: &[u8], file: &[u8]) {
-    let validation = validate(file);
-    let case = validation.numbers;
-    let table = validation.addresses;
-    match case {
-        Validated::Numbers(d) => numbers(name, d, table),
-        Validated::Refused(n) => print(VALIDATE, n as u64, name, 0, 0, 0, 0),
-    }
-}
-
-// An extension by its number.
-pub(crate) fn extended(name: &[u8], file: &[u8], asked: u64) {
-    let e = extension_of(file, ExtensionNumber(asked));
-    print(
-        EXTENSION,
-        e.refusal as u64,
-        name,
-        e.capacity,
-        e.first.0,
-        e.records,
-        0,
-    );
 }
 
 // Writes the numbers of an entry.

@@ -1,26 +1,29 @@
 // The calls of the library run on file A of the scope of work, on P5 to P12, and on both sides of every bound, one line a
 // case. The cases are the script on standard input; their lines are held to the file stdout.
 mod answers;
+mod every;
 mod files;
+mod first_record;
 mod printing;
 mod reading;
 mod writing;
 
 use answers::checked;
-use answers::described;
-use answers::extended;
 use answers::handed_data;
 use answers::indexed;
 use answers::opened;
 use answers::sectioned;
 use answers::shown;
 use answers::tabled;
-use answers::validated;
+use every::every_in;
 use files::ROOM;
 use files::fill;
 use files::keep;
 use files::put;
 use files::take;
+use first_record::described;
+use first_record::extended;
+use first_record::validated;
 use libc::STDIN_FILENO;
 use printing::wrong;
 use reading::bits_at;
@@ -33,7 +36,6 @@ use reading::list;
 use reading::position;
 use writing::append_in;
 use writing::create_in;
-use writing::every_in;
 ghost use Prim.Native.Nat.{_≤_};
 ghost use mathlib.Core.Path.{_≡_};
 ghost use lib.ListN.{length};

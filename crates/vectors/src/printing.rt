@@ -142,6 +142,11 @@ pub(crate) fn print(form: usize, refusal: u64, name: &[u8], a: u64, b: u64, c: u
     spell(forms, chosen(form, refusal), refusal, name, a, b, c, d);
 }
 
+// Ends a line.
+pub(crate) fn end(name: &[u8]) {
+    print(END, 0, name, 0, 0, 0, 0);
+}
+
 // Says that a line of the script is wrong.
 pub(crate) fn wrong() {
     io::write_all(STDOUT_FILENO, b"a wrong line\n");

@@ -1,5 +1,4 @@
-// The calls that change a file: create and append, and every call on one file.
-use super::answers::end;
+// The calls that change a file: create and append.
 use super::files::changed;
 use super::files::put_all;
 use super::files::save;
@@ -7,9 +6,7 @@ use super::printing::APPEND;
 use super::printing::CHANGED;
 use super::printing::CREATE;
 use super::printing::CREATE_END;
-use super::printing::EVERY;
-use super::printing::EVERY_END;
-use super::printing::EVERY_ON;
+use super::printing::end;
 use super::printing::print;
 use super::printing::wrong;
 use super::reading::Read;
@@ -19,20 +16,11 @@ use super::reading::int4;
 use super::reading::list;
 use super::reading::position;
 use classic::Appended;
-use classic::EntryNumber;
-use classic::ExtensionNumber;
-use classic::Open;
 use classic::Settings;
 use classic::append;
-use classic::check_order;
 use classic::create;
-use classic::data_array_refusal;
-use classic::extension_of;
-use classic::index_words_refusal;
-use classic::open_entry;
-use classic::section_refusal;
 use classic::validate;
-ghost use Prim.Native.Nat.{_+_, _≤_};
+ghost use Prim.Native.Nat.{_≤_};
 ghost use mathlib.Core.Path.{_≡_};
 ghost use lib.ListN.{length};
 
@@ -55,7 +43,7 @@ fn settings(values: &[i64]) -> Settings {
 }
 
 // Writes whether bytes changed since they were saved.
-fn compared(name: &[u8], room: &[u8], first: usize, lent: usize)
+pub(crate) fn compared(name: &[u8], room: &[u8], first: usize, lent: usize)
     requires { ⌜ lent ≤ 789176 ⌝ }
 {
     print(CHANGED, changed(room, first, lent) as u64, name, 0, 0, 0, 0);
@@ -124,7 +112,42 @@ fn size(bits: u64) -> usize
     }
 }
 
-// Appends with identifiers and lengths; the words listed are those of the index, the sections and the data.
+// Reads the words listed, those of the index, the sections and the data, as bytes.
+fn listed_words(lists: &[u8], at: usize, bytes: &mut [u8]) {
+    let mut values = [0i64; 66];
+    let read = labelled(lists, at, 2, &mut values);
+    let count = read.count;
+    put_all(bytes, 0, 4, &values[0..count]);
+    if read.next != lists.len() {
+        wrong();
+    }
+}
+
+// Appends with identifiers, lengths, and the bytes of the index, the sections and the data one after another.
+fn append_parts(
+    numbers: &[i64],
+    bytes: &[u8],
+    ids: &[i32],
+    lengths: &[i64],
+    file: &mut [u8],
+) -> Appended
+    requires { ⌜ 816 ≤ length (now bytes) ⌝ }
+{
+    let i = size(bits_at(numbers, 1));
+    let s = i + size(bits_at(numbers, 2));
+    let d = s + size(bits_at(numbers, 3));
+    append(
+        file,
+        int4_at(numbers, 0),
+        &bytes[0..i],
+        ids,
+        lengths,
+        &bytes[i..s],
+        &bytes[s..d],
+    )
+}
+
+// Appends with identifiers and lengths.
 fn append_words(
     numbers: &[i64],
     lists: &[u8],
@@ -133,27 +156,9 @@ fn append_words(
     lengths: &[i64],
     file: &mut [u8],
 ) -> Appended {
-    let mut values = [0i64; 66];
     let mut bytes = [0u8; 816];
-    let read = labelled(lists, at, 2, &mut values);
-    let count = read.count;
-    put_all(&mut bytes, 0, 4, &values[0..count]);
-    if read.next != lists.len() {
-        wrong();
-    }
-    let i = size(bits_at(numbers, 1));
-    let s = i + size(bits_at(numbers, 2));
-    let d = s + size(bits_at(numbers, 3));
-    let parts = &bytes[..];
-    append(
-        file,
-        int4_at(numbers, 0),
-        &parts[0..i],
-        ids,
-        lengths,
-        &parts[i..s],
-        &parts[s..d],
-    )
+    listed_words(lists, at, &mut bytes);
+    append_parts(numbers, &bytes, ids, lengths, file)
 }
 
 // Appends with identifiers.
@@ -171,7 +176,7 @@ fn append_lengths(
 }
 
 // Appends what a line hands in: version, bytes of index, sections and data, then lists behind their labels.
-fn append_line(numbers: &[i64], lists: &[u8], file: &mut [u8]) -> Appended {
+pub(crate) fn append_line(numbers: &[i64], lists: &[u8], file: &mut [u8]) -> Appended {
     let mut values = [0i64; 65];
     let mut ids = [0i32; 65];
     let read = labelled(lists, 0, 0, &mut values);
@@ -208,57 +213,4 @@ pub(crate) fn append_in(numbers: &[i64], lists: &[u8], name: &[u8], room: &mut [
     if name.len() != 0 || answer.refusal != 0 {
         appended(name, answer, room, lent);
     }
-}
-
-// The refusal of an open, 0 for numbers.
-fn open_refusal(file: &[u8], asked: u64) -> u32 {
-    let answer = open_entry(file, EntryNumber(asked)).answer;
-    match answer {
-        Open::Numbers(_, _, _, _, _) => 0,
-        Open::Refused(refusal) => refusal,
-    }
-}
-
-// Writes the refusals of the first calls that read.
-fn openings(name: &[u8], file: &[u8], asked: u64) {
-    let extension = extension_of(file, ExtensionNumber(asked)).refusal;
-    let index = index_words_refusal(file, EntryNumber(asked));
-    print(
-        EVERY,
-        0,
-        name,
-        validate(file).refusal as u64,
-        extension as u64,
-        open_refusal(file, asked) as u64,
-        index as u64,
-    );
-}
-
-// Writes the refusals of the other calls that read.
-fn readings(name: &[u8], file: &[u8], asked: u64) {
-    let section = section_refusal(file, EntryNumber(asked), 7);
-    let array = data_array_refusal(file, EntryNumber(asked));
-    let checked = check_order(file);
-    print(
-        EVERY_ON,
-        0,
-        name,
-        section as u64,
-        array as u64,
-        checked.entry.0,
-        checked.refusal as u64,
-    );
-}
-
-// Every call on the lent bytes, for entry and extension `asked`; 0 stands for accepted.
-pub(crate) fn every_in(asked: u64, name: &[u8], room: &mut [u8], lent: usize)
-    requires { ⌜ (length (now room) ≡ 1623632) × (lent ≤ 789176) ⌝ }
-{
-    openings(name, &room[0..lent], asked);
-    readings(name, &room[0..lent], asked);
-    save(room, lent);
-    let answer = append_line(&[1, 4, 0, 0], b" words 9", &mut room[0..lent]);
-    print(EVERY_END, 0, name, answer.refusal as u64, 0, 0, 0);
-    compared(name, room, 0, lent);
-    end(name);
 }

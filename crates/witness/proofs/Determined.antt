@@ -3,7 +3,7 @@ use Prim.Native.Nat.{ℕ}
 use mathlib.Core.Path.{_≡_, sym, _∙_}
 use mathlib.Core.List.{List}
 use Rattle.descriptor.specs.declared.numbers.Settings.{Settings}
-use Rattle.writer.specs.Handed.{Handed}
+use Rattle.storing.specs.Handed.{Handed}
 use Rattle.witness.specs.declared.Begun.{Begun}
 use Rattle.witness.specs.declared.Twice.{Twice}
 use Rattle.witness.specs.Begun.{CreatesAndAppends}

@@ -7,7 +7,7 @@ use borrow.Author.Tests.{eq-eqb, ne-eqb}
 use lib.ListN.{length}
 use Rattle.descriptor.specs.declared.numbers.Settings.{Settings}
 use Rattle.writer.specs.Creation.{creationRefusal, createdFile, Creates}
-use Rattle.writer.specs.Handed.{Handed, Integers}
+use Rattle.storing.specs.Handed.{Handed, Integers}
 use Rattle.writer.specs.Answers.{appendOf, fileAfter, Appends}
 use Rattle.promises.specs.Calls.{append, Answer, appended}
 use Rattle.promises.specs.Demand.{Created, Promised}
@@ -19,6 +19,7 @@ use Rattle.witness.specs.declared.Twice.{Twice}
 use Rattle.witness.specs.Begun.{refusedBegun, begunOf, begunFile, CreatesAndAppends}
 use Rattle.witness.specs.Twice.{AppendsTwice}
 
+-- two appends are a series of two calls: from a file that demand 3 starts from, all that it promises holds of them
 pub twice : (before between after : List ℕ) (h k : Handed) (r : Twice) → Integers h → Integers k → Appends before h (r .first) between → Appends between k (r .second) after
     → AppendsTwice before after h k r
 twice before between after h k r g j p q =

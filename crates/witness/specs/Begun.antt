@@ -7,7 +7,7 @@ use lib.Dec.{eqb}
 use lib.ListN.{length}
 use Rattle.descriptor.specs.declared.numbers.Settings.{Settings}
 use Rattle.writer.specs.Creation.{creationRefusal, createdFile}
-use Rattle.writer.specs.Handed.{Handed}
+use Rattle.storing.specs.Handed.{Handed}
 use Rattle.writer.specs.Answers.{appendOf, fileAfter}
 use Rattle.promises.specs.Contents.{contents}
 use Rattle.promises.specs.Calls.{append, appended}

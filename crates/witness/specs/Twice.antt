@@ -6,7 +6,7 @@ use lib.IntN.{ℤ, pos}
 use lib.ListN.{length, getD}
 use mir.Val.{SFits}
 use Rattle.words.specs.Word.{integer4}
-use Rattle.writer.specs.Handed.{Handed}
+use Rattle.storing.specs.Handed.{Handed}
 use Rattle.writer.specs.Answers.{appendOf, fileAfter}
 use Rattle.promises.specs.Calls.{append, appended}
 use Rattle.promises.specs.Demand.{Start, Promised}

@@ -9,8 +9,8 @@ use geometry::EntryNumber;
 use writer::Appended;
 use writer::append;
 use writer::create;
-ghost use Rattle.writer.specs.Handed.{handedIn};
 ghost use Rattle.witness.specs.Begun.{CreatesAndAppends};
+ghost use Rattle.storing.specs.Handed.{handed};
 ghost use Rattle.witness.specs.Twice.{AllIntegers, AppendsTwice};
 
 // What two appends answer.
@@ -52,7 +52,7 @@ pub fn append_twice(
     next_sections: &[u8],
     next_values: &[u8],
 ) -> Twice
-    ensures { λ r. ⌜ AppendsTwice (now (file .entry)) (now (file .exit)) (handedIn version (now (index .entry)) (now (ids .entry)) (now (lengths .entry)) (now (sections .entry)) (now (values .entry))) (handedIn «next_version» (now («next_index» .entry)) (now («next_ids» .entry)) (now («next_lengths» .entry)) (now («next_sections» .entry)) (now («next_values» .entry))) r ⌝ }
+    ensures { λ r. ⌜ AppendsTwice (now (file .entry)) (now (file .exit)) (handed version index ids lengths sections values) (handed «next_version» «next_index» «next_ids» «next_lengths» «next_sections» «next_values») r ⌝ }
 {
     read_identifiers(ids);
     read_identifiers(next_ids);
@@ -81,7 +81,7 @@ pub fn create_and_append(
     sections: &[u8],
     values: &[u8],
 ) -> Begun
-    ensures { λ r. ⌜ CreatesAndAppends (now (file .entry)) (now (file .exit)) settings (handedIn version (now (index .entry)) (now (ids .entry)) (now (lengths .entry)) (now (sections .entry)) (now (values .entry))) r ⌝ }
+    ensures { λ r. ⌜ CreatesAndAppends (now (file .entry)) (now (file .exit)) settings (handed version index ids lengths sections values) r ⌝ }
 {
     read_identifiers(ids);
     let created = create(file, settings);

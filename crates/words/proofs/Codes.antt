@@ -1,10 +1,10 @@
 -- Laws of codes: four bytes compared one by one, and lists that are the same. Assumes nothing.
 use Prim.Native.Nat.{ℕ, _+_, _≤_}
-use mathlib.Core.Path.{_≡_, refl, sym, ap, ap₂, subst}
-use mathlib.Core.Bool.{Bool, true, false, _&&_}
+use mathlib.Core.Path.{_≡_, refl, ap}
+use mathlib.Core.Bool.{true, _&&_}
 use mathlib.Core.List.{List, [], _∷_}
-use borrow.Author.Tests.{eq-eqb, eqb-true}
-use lib.Dec.{T, eqb}
+use borrow.Author.Tests.{eq-eqb}
+use lib.Dec.{eqb}
 use lib.ListN.{length, getD}
 use Rattle.image.specs.Image.{part}
 use Rattle.words.specs.Code.{sameBytes}
@@ -16,18 +16,6 @@ pub same-four : (image : List ℕ) (at a b c d : ℕ) → at + 4 ≤ length imag
     ≡ eqb (getD image at 0) a && (eqb (getD image (at + 1) 0) b && (eqb (getD image (at + 2) 0) c && (eqb (getD image (at + 3) 0) d && true)))
 unfolding sameBytes
 same-four image at a b c d h = ap (λ (l : List ℕ). sameBytes l (a ∷ b ∷ c ∷ d ∷ [])) (part-four image at h)
-
--- bytes that are the same are one list
-pub same-list : (xs ys : List ℕ) → sameBytes xs ys ≡ true → xs ≡ ys
-unfolding sameBytes
-same-list [] [] e = refl
-same-list [] (y ∷ ys) e = absurd (subst T (sym e) tt)
-same-list (x ∷ xs) [] e = absurd (subst T (sym e) tt)
-same-list (x ∷ xs) (y ∷ ys) e = by (eqb x y) refl e (same-list xs ys)
-  where
-    by : (b : Bool) → eqb x y ≡ b → b && sameBytes xs ys ≡ true → (sameBytes xs ys ≡ true → xs ≡ ys) → x ∷ xs ≡ y ∷ ys
-    by true q t rest = ap₂ (λ (h : ℕ) (l : List ℕ). h ∷ l) (eqb-true x y q) (rest t)
-    by false q t rest = absurd (subst T (sym t) tt)
 
 -- a list is the same as itself
 pub same-self : (xs : List ℕ) → sameBytes xs xs ≡ true

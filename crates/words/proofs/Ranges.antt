@@ -1,56 +1,30 @@
 -- A test on a signed reading is a test on the bits without a sign: a negative value's bits are above every bound. Assumes nothing.
 use Prim.Native.Nat.{ℕ, _^_, _≤_, _<_}
-use mathlib.Core.Path.{_≡_, refl, sym, ap, _∙_, subst}
-use mathlib.Core.Bool.{Bool, true, false, _&&_, and-eq-true-iff}
+use mathlib.Core.Path.{_≡_, sym, _∙_}
+use mathlib.Core.Bool.{true, _&&_, and-eq-true-iff, and-true, and-false}
 use native.Mathlib.Omega.{arith}
 use borrow.Author.Tests.{lt-leb, le-leb, lt-ltb, leb-true, ltb-true, ltb-false}
-use lib.Dec.{T, ltb, leb}
-use lib.IntN.{pos}
+use lib.Dec.{ltb, leb}
 use mir.Syntax.{Width}
 use mir.Val.{hbits}
+use Rattle.outcome.proofs.Either.{either}
 use Rattle.words.specs.Word.{integer4, integer8, signedOf}
 use Rattle.words.specs.Range.{within, atLeast}
 use Rattle.words.proofs.Signed.{signed-low}
 
-and-false : (b : Bool) → b && false ≡ false
-and-false true = refl
-and-false false = refl
-
-and-true : (b : Bool) → b ≡ b && true
-and-true true = refl
-and-true false = refl
-
-module _ (w : Width) (low high u : ℕ) (h : high < 2 ^ hbits w) where
-  -- a value is within bounds where its bits are
-  pub within-bits : within low high (signedOf w u) ≡ leb low u && leb u high
-  unfolding within
-  within-bits = by (ltb u (2 ^ hbits w)) refl
-    where
-      by : (b : Bool) → ltb u (2 ^ hbits w) ≡ b → within low high (signedOf w u) ≡ leb low u && leb u high
-      by true e = rw (signed-low w u (ltb-true u (2 ^ hbits w) e))
-      by false e =
-          let k : 2 ^ hbits w ≤ u = ltb-false u (2 ^ hbits w) e in
-          rw (e, lt-leb u high (omega arith)) (sym (and-false (leb low u)))
-
-  -- a value within bounds is its bits
-  pub within-value : within low high (signedOf w u) ≡ true → signedOf w u ≡ pos u
-  within-value t = by (leb u high) refl
-    where
-      false-true : {X : Type 0} → _≡_ {A = Bool} false true → X
-      false-true e = absurd (subst T (sym e) tt)
-
-      by : (b : Bool) → leb u high ≡ b → signedOf w u ≡ pos u
-      by true e = signed-low w u (let k = leb-true u high e in omega arith)
-      by false e = false-true (sym (and-false (leb low u)) ∙ ap (λ (b : Bool). leb low u && b) (sym e) ∙ sym within-bits ∙ t)
+-- a value is within bounds where its bits are
+pub within-bits : (w : Width) (low high u : ℕ) → high < 2 ^ hbits w → within low high (signedOf w u) ≡ leb low u && leb u high
+unfolding within
+within-bits w low high u h =
+    either (ltb u (2 ^ hbits w)) (λ e. rw (signed-low w u (ltb-true u (2 ^ hbits w) e)))
+    (λ e. let k = ltb-false u (2 ^ hbits w) e in rw (e, lt-leb u high (omega arith)) (sym (and-false (leb low u))))
 
 -- a value reaches a bound where its bits do and are below half the range
 pub atLeast-bits : (w : Width) (low u : ℕ) → atLeast low (signedOf w u) ≡ leb low u && ltb u (2 ^ hbits w)
 unfolding atLeast
-atLeast-bits w low u = by (ltb u (2 ^ hbits w)) refl
-  where
-    by : (b : Bool) → ltb u (2 ^ hbits w) ≡ b → atLeast low (signedOf w u) ≡ leb low u && ltb u (2 ^ hbits w)
-    by true e = rw (signed-low w u (ltb-true u (2 ^ hbits w) e), e) (and-true (leb low u))
-    by false e = rw e (sym (and-false (leb low u)))
+atLeast-bits w low u =
+    either (ltb u (2 ^ hbits w)) (λ e. rw (signed-low w u (ltb-true u (2 ^ hbits w) e), e) (sym (and-true (leb low u))))
+    (λ e. rw e (sym (and-false (leb low u))))
 
 -- what holds of the bits where a test passed
 pub within-bounds : (w : Width) (low high u : ℕ) → high < 2 ^ hbits w → within low high (signedOf w u) ≡ true → (low ≤ u) × (u ≤ high)

@@ -1,28 +1,36 @@
 -- Tests that run over one thing after the other and pass where each test passes. Assumes nothing.
-use mathlib.Core.Path.{_≡_, refl, sym, ap, _∙_}
-use mathlib.Core.Bool.{Bool, true, false, _&&_, and-eq-true-iff}
-use Prim.Native.Nat.{ℕ, zero, suc, _+_, _-_, _≤_, _<_}
+use mathlib.Core.Path.{_≡_, sym, ap, _∙_}
+use mathlib.Core.Bool.{Bool, true, false, not, _&&_, and-eq-true-iff}
+use borrow.Author.Tests.{not-true, not-false}
+use Prim.Native.Nat.{ℕ, zero, suc, _+_, _≤_, _<_}
 use native.Mathlib.Omega.{arith}
 use native.Mathlib.Numerals.{add-one}
+use native.Mathlib.Decide.{le-ind}
+use Rattle.outcome.proofs.Either.{either}
 
 -- a run passes over one more where it passed so far and the test of that one passes
 pub record Run (run test : ℕ → Bool) : Type 0 where
   pub next : (k : ℕ) → run (k + 1) ≡ run k && test k
+
+-- what a loop knows that makes n tests in turn: those made have passed
+pub record Passing (run : ℕ → Bool) (n made : ℕ) : Type 0 where
+  pub few : made ≤ n
+  pub so-far : run made ≡ true
+
+-- with none left, the run passes
+pub passing-all : {run : ℕ → Bool} {n made : ℕ} → Passing run n made → n ≤ made → true ≡ run n
+passing-all {run} {n} {made} p h = let e : made ≡ n = omega (arith, p .few) in sym (ap run (sym e) ∙ p .so-far)
 
 module _ {run test : ℕ → Bool} (r : Run run test) where
   -- with those before it passed, one more passes by its own test
   pub run-next : (k : ℕ) → run k ≡ true → run (k + 1) ≡ test k
   run-next k e = r .next k ∙ ap (λ (b : Bool). b && test k) e
 
-  run-plus : (k d : ℕ) → run (k + d) ≡ true → run k ≡ true
-  run-plus k zero e = let q : k + 0 ≡ k = omega arith in (rw q at e)
-  run-plus k (suc d) e =
-      let q : k + suc d ≡ k + d + 1 = omega arith in
-      run-plus k d (and-eq-true-iff (run (k + d)) (test (k + d)) .0 (sym (r .next (k + d)) ∙ ap run (sym q) ∙ e) .0)
-
   -- a run that passed, passed over fewer
   pub run-fewer : (k n : ℕ) → k ≤ n → run n ≡ true → run k ≡ true
-  run-fewer k n h e = let q : k + (n - k) ≡ n = omega arith in run-plus k (n - k) (ap run q ∙ e)
+  run-fewer k n h e =
+      le-ind (λ i. run i ≡ true → run k ≡ true) (λ q. q)
+      (λ i l f q. f (and-eq-true-iff (run i) (test i) .0 (sym (r .next i) ∙ ap run (add-one i) ∙ q) .0)) n h e
 
   -- and each of its tests did
   pub run-test : (k n : ℕ) → k < n → run n ≡ true → test k ≡ true
@@ -35,16 +43,14 @@ module _ {run test : ℕ → Bool} (r : Run run test) where
 
   -- with one test failed, the run fails
   pub run-failed : (k n : ℕ) → k < n → test k ≡ false → run n ≡ false
-  run-failed k n h e = by (run n) refl
-    where
-      by : (b : Bool) → run n ≡ b → run n ≡ false
-      by true q = q ∙ sym (run-test k n h q) ∙ e
-      by false q = q
+  run-failed k n h e = either (run n) (λ q. q ∙ sym (run-test k n h q) ∙ e) (λ q. q)
 
-  -- a run that failed fails over more
-  pub run-more : (k n : ℕ) → k ≤ n → run k ≡ false → run n ≡ false
-  run-more k n h e = by (run n) refl
-    where
-      by : (b : Bool) → run n ≡ b → run n ≡ false
-      by true q = q ∙ sym (run-fewer k n h q) ∙ e
-      by false q = q
+  -- a turn of that loop, which finds t of the next test
+  module _ {n made : ℕ} (p : Passing run n made) (some : made < n) {t : Bool} (e : t ≡ test made) where
+    -- a test that passes leads to the next
+    pub passing-next : not t ≡ false → Passing run n (made + 1)
+    passing-next h = record { few = omega arith; so-far = run-next made (p .so-far) ∙ sym e ∙ not-false t h }
+
+    -- and with one that fails the run fails
+    pub passing-failed : not t ≡ true → false ≡ run n
+    passing-failed h = sym (run-failed made n some (sym e ∙ not-true t h))

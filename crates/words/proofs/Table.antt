@@ -21,15 +21,6 @@ module _ {A : Type 0} where
   places-at (suc m) (suc n) f blank zero h l = refl
   places-at (suc m) (suc n) f blank (suc i) h l = places-at m n (λ j. f (suc j)) blank i (omega arith) (omega arith)
 
-  -- a place behind those holds the blank
-  pub places-past : (m n : ℕ) (f : ℕ → A) (blank : A) (i : ℕ) → n ≤ i → getD (places m n f blank) i blank ≡ blank
-  places-past zero zero f blank i h = refl
-  places-past (suc m) zero f blank zero h = refl
-  places-past (suc m) zero f blank (suc i) h = places-past m zero f blank i (omega arith)
-  places-past zero (suc n) f blank i h = refl
-  places-past (suc m) (suc n) f blank zero h = absurd (omega arith)
-  places-past (suc m) (suc n) f blank (suc i) h = places-past m n (λ j. f (suc j)) blank i (omega arith)
-
   filled : (m n : ℕ) (f : ℕ → A) (blank : A) → n < m → set (places m n f blank) n (f n) ≡ places m (suc n) f blank
   filled zero n f blank h = absurd (omega arith)
   filled (suc m) zero f blank h = refl

@@ -6,10 +6,11 @@ use mir.Syntax.{Width, w32, w64}
 use mir.Val.{toZ, ofZ, bytes}
 use Rattle.image.specs.Image.{part}
 
--- Integer*4 is a word of the memo, 32 bits; Integer*8 is two, 64 bits
+-- Integer*4 is a word of the memo, 32 bits
 abbrev pub integer4 : Width
 integer4 = w32
 
+-- Integer*8 is two words, 64 bits
 abbrev pub integer8 : Width
 integer8 = w64
 
@@ -24,17 +25,19 @@ numeral zero x = []
 numeral (suc n) x = x % 256 ∷ numeral n (x / 256)
 
 -- two's complement: bits below half the range are their own value, the others are their value less the range
--- (signed-low and signed-high, in proofs/Signed.antt); and back
+-- (signed-low and signed-high, in proofs/Signed.antt)
 abbrev pub signedOf : Width → ℕ → ℤ
 signedOf w bits = toZ w bits
 
+-- and back: the bits of a signed value
 abbrev pub bitsOf : Width → ℤ → ℕ
 bitsOf w value = ofZ w value
 
--- the integer of width w at offset at of an image: its bits, and its signed reading
+-- the integer of width w at offset at of an image: its bits
 unfoldable pub bitsAt : Width → List ℕ → ℕ → ℕ
 bitsAt w image at = number (part image at (bytes w))
 
+-- and its signed reading
 abbrev pub signedAt : Width → List ℕ → ℕ → ℤ
 signedAt w image at = signedOf w (bitsAt w image at)
 

@@ -11,7 +11,7 @@ use Rattle.descriptor.specs.FirstRecord.{createdOf}
 use Rattle.descriptor.specs.Rules.{settingRefusal, creationRules}
 use Rattle.descriptor.proofs.Refusals.{all-hold}
 use Rattle.descriptor.proofs.Passed.{setting-rows, settled, lent}
-use Rattle.writer.specs.Bounds.{Storable}
+use Rattle.fields.specs.Bounds.{Storable}
 use Rattle.writer.specs.Creation.{creationRefusal}
 
 -- numbers that pass rules 3 to 8 fit their words

@@ -2,40 +2,30 @@
 -- table by its parts. Assumes nothing.
 use mathlib.Core.Path.{_≡_, refl, sym, ap, _∙_}
 use mathlib.Core.Bool.{Bool, true, false, not, cond}
-use mathlib.Core.List.{List, _++_}
-use Prim.Native.Nat.{ℕ, _+_, _*_, _-_, _/_, _%_, _^_, _≤_, _<_}
+use mathlib.Core.List.{List}
+use Prim.Native.Nat.{ℕ, _*_, _-_, _%_}
 use native.Mathlib.Omega.{arith}
 use native.Mathlib.Numerals.{add-one}
-use borrow.Author.Needs.{sfits-of}
 use borrow.Author.Tests.{leb-true, ltb-true, ltb-false, eqb-true, le-leb, lt-leb}
 use lib.Dec.{leb, ltb, eqb}
 use lib.IntN.{ℤ, pos, negsuc}
 use lib.ListN.{length, getD}
-use lib.Signed.{mag, ltZ}
-use mir.Syntax.{Width}
-use mir.Val.{hbits}
-use Rattle.words.specs.Word.{signedOf, bitsOf}
+use lib.Signed.{ltZ}
 use Rattle.words.specs.Range.{atLeast}
-use Rattle.words.proofs.Signed.{signed-bits}
 use Rattle.words.proofs.Runs.{Run}
 use Rattle.geometry.specs.declared.units.RecordNumber.{RecordNumber}
-use Rattle.geometry.specs.Growth.{capacityOf}
 use Rattle.descriptor.specs.declared.numbers.DescriptorNumbers.{DescriptorNumbers}
 use Rattle.descriptor.specs.Refusal.{Rule, AllHold}
-use Rattle.descriptor.specs.FirstRecord.{mexOf, growthIn}
 use Rattle.descriptor.specs.Bounds.{Admitted}
 use Rattle.descriptor.proofs.Refusals.{all-hold, refusal-none, hold-split, refusal-append}
-use Rattle.entry.specs.Tables.{sameInteger}
-use Rattle.writer.specs.Handed.{Handed, absent, distinct, positive, sumOf, nwordIn}
-use Rattle.writer.specs.Placing.{entryStart}
-use Rattle.writer.specs.Rules.{handedRules, extensionRules, spaceRules, appendRules, handedRefusal, extensionRefusal, spaceRefusal, appendRefusal}
-use Rattle.writer.specs.Bounds.{Fitting, Extensible, Accepted}
+use Rattle.pieces.specs.Tables.{sameInteger}
+use Rattle.storing.specs.Handed.{Handed, absent, distinct, sumOf, nwordIn}
+use Rattle.writer.specs.Rules.{handedRules, appendRules, handedRefusal, appendRefusal}
+use Rattle.placing.specs.Rules.{placementRules, placementRefusal}
+use Rattle.placing.proofs.Placed.{placed}
+use Rattle.storing.specs.Bounds.{Fitting, Accepted}
 
--- an element of a list, as code reads it from its bits
-pub read-back : (w : Width) (zs : List ℤ) (k : ℕ) → mag (getD zs k (pos 0)) < 2 ^ hbits w
-    → signedOf w (bitsOf w (getD zs k (pos 0))) ≡ getD zs k (pos 0)
-read-back w zs k f = signed-bits w (getD zs k (pos 0)) (sfits-of f)
-
+-- so much or more is not below
 not-below : (low n : ℕ) → leb low n ≡ not (ltb n low)
 not-below low n = by (ltb n low) refl
   where
@@ -49,41 +39,23 @@ unfolding atLeast
 atLeast-below low (pos n) = not-below low n
 atLeast-below low (negsuc n) = refl
 
--- the tests that run over the identifiers and over the lengths
+-- that an identifier is none of the others runs over them
 pub absent-run : (ids : List ℤ) (z : ℤ) → Run (absent ids z) (λ k. not (sameInteger (getD ids k (pos 0)) z))
 unfolding absent
 absent-run ids z = record { next = λ k. rw add-one }
 
+-- and so does that no two are equal
 pub distinct-run : (ids : List ℤ) → Run (distinct ids) (λ k. absent ids (getD ids k (pos 0)) k)
 unfolding distinct
 distinct-run ids = record { next = λ k. rw add-one }
 
-pub positive-run : (lengths : List ℤ) → Run (positive lengths) (λ k. atLeast 1 (getD lengths k (pos 0)))
-unfolding positive
-positive-run lengths = record { next = λ k. rw add-one }
-
 module _ (d : DescriptorNumbers) where
-  -- rule 23 passed
-  pub extensible : extensionRefusal d ≡ 0 → Extensible d
-  unfolding extensionRefusal
-  extensible e =
-      let a = all-hold (extensionRules d) (omega arith) e in
-      record {
-        room = λ f. ltb-true (d .nex) (mexOf (d .reclen)) (rw f at (a .0));
-        within = λ f. leb-true (capacityOf (growthIn d) (d .nex + 1)) 16384 (rw f at (a .1 .0));
-      }
-
-  -- rule 24 passed
-  pub space-inside : (bytes nword : ℕ) → spaceRefusal bytes d nword ≡ 0 → entryStart d + nword ≤ bytes / 4
-  unfolding spaceRefusal
-  space-inside bytes nword e =
-      leb-true (entryStart d + nword) (bytes / 4) (all-hold (spaceRules bytes d nword) (omega arith) e .0)
-
   module _ (h : Handed) where
-    -- rules 21 and 22 of what is handed in together, and their refusal
+    -- rules 21 and 22 of what is handed in together
     abbrev pub rulesOf : List Rule
     rulesOf = handedRules d (h .index) (h .ids) (h .lengths) (h .sections) (h .values)
 
+    -- and their refusal
     abbrev pub refusalOf : ℕ
     refusalOf = handedRefusal d (h .index) (h .ids) (h .lengths) (h .sections) (h .values)
 
@@ -92,6 +64,7 @@ module _ (d : DescriptorNumbers) where
     unfolding handedRefusal
     handed-rows e = all-hold rulesOf (omega arith) e
 
+    -- and what is handed in fits together
     pub fitting : refusalOf ≡ 0 → Fitting d h
     fitting e =
         let a = handed-rows e in
@@ -105,32 +78,26 @@ module _ (d : DescriptorNumbers) where
         }
 
     module _ (bytes : ℕ) where
-      abbrev spaces : List Rule
-      spaces = spaceRules bytes d (nwordIn h)
+      abbrev places : List Rule
+      places = placementRules bytes d (nwordIn h)
 
-      -- the whole table: each part counts where those before it give no refusal
-      pub append-parts : appendRefusal bytes d h
-          ≡ cond (eqb refusalOf 0) (cond (eqb (extensionRefusal d) 0) (spaceRefusal bytes d (nwordIn h)) (extensionRefusal d)) refusalOf
-      unfolding appendRefusal handedRefusal extensionRefusal spaceRefusal
-      append-parts =
-          refusal-append rulesOf (extensionRules d ++ spaces) (omega arith)
-          ∙ ap (λ (n : ℕ). cond (eqb refusalOf 0) n refusalOf) (refusal-append (extensionRules d) spaces (omega arith))
+      -- the whole table: the place counts where what is handed in gives no refusal
+      pub append-parts : appendRefusal bytes d h ≡ cond (eqb refusalOf 0) (placementRefusal bytes d (nwordIn h)) refusalOf
+      unfolding appendRefusal handedRefusal placementRefusal
+      append-parts = refusal-append rulesOf places (omega arith)
 
-      -- passed, it leaves an append that is accepted
-      pub accepted : (addresses : List RecordNumber) → Admitted bytes d addresses → appendRefusal bytes d h ≡ 0 → Accepted bytes d addresses h
-      unfolding appendRefusal handedRefusal extensionRefusal spaceRefusal
-      accepted addresses admitted e =
-          let a = hold-split rulesOf (extensionRules d ++ spaces) (all-hold (appendRules bytes d h) (omega arith) e) in
-          let b = hold-split (extensionRules d) spaces (a .1) in
-          record {
-            admitted = admitted;
-            fitting = fitting (refusal-none rulesOf (a .0));
-            extensible = extensible (refusal-none (extensionRules d) (b .0));
-            inside = space-inside bytes (nwordIn h) (refusal-none spaces (b .1));
-          }
-
-      -- and what is handed in passed its own rules
+      -- what is handed in passed its own rules
       pub handed-passed : appendRefusal bytes d h ≡ 0 → refusalOf ≡ 0
       unfolding appendRefusal handedRefusal
-      handed-passed e =
-          refusal-none rulesOf (hold-split rulesOf (extensionRules d ++ spaces) (all-hold (appendRules bytes d h) (omega arith) e) .0)
+      handed-passed e = refusal-none rulesOf (hold-split rulesOf places (all-hold (appendRules bytes d h) (omega arith) e) .0)
+
+      -- and the entry has a place
+      place-passed : appendRefusal bytes d h ≡ 0 → placementRefusal bytes d (nwordIn h) ≡ 0
+      unfolding appendRefusal placementRefusal
+      place-passed e = refusal-none places (hold-split rulesOf places (all-hold (appendRules bytes d h) (omega arith) e) .1)
+
+      -- so the append is accepted
+      pub accepted : (addresses : List RecordNumber) → Admitted bytes d addresses → appendRefusal bytes d h ≡ 0 → Accepted bytes d addresses h
+      accepted addresses admitted e =
+          let p = placed d bytes (nwordIn h) (place-passed e) in
+          record { admitted = admitted; fitting = fitting (handed-passed e); extensible = p .extensible; inside = p .inside }

@@ -4,7 +4,7 @@ use descriptor::Validated;
 use descriptor::refusal_of;
 use descriptor::validate;
 use geometry::EntryNumber;
-ghost use Rattle.writer.specs.Handed.{handedIn};
+ghost use Rattle.storing.specs.Handed.{handed};
 ghost use Rattle.writer.specs.Answers.{Appends};
 
 // The answer of `append`: the refusal, 0 when accepted, and the new entry's number, 0 when refused.
@@ -25,7 +25,7 @@ pub fn append(
     sections: &[u8],
     values: &[u8],
 ) -> Appended
-    ensures { λ r. ⌜ Appends (now (file .entry)) (handedIn version (now (index .entry)) (now (ids .entry)) (now (lengths .entry)) (now (sections .entry)) (now (values .entry))) r (now (file .exit)) ⌝ }
+    ensures { λ r. ⌜ Appends (now (file .entry)) (handed version index ids lengths sections values) r (now (file .exit)) ⌝ }
 {
     let validation = validate(file);
     let case = validation.numbers;

@@ -1,15 +1,16 @@
 // Creating a file.
-use super::fields::put_counts;
-use super::fields::put_growth;
-use super::fields::put_settings;
 use descriptor::DescriptorNumbers;
 use descriptor::Settings;
 use descriptor::setting_refusal;
+use fields::put_counts;
+use fields::put_growth;
+use fields::put_settings;
 ghost use Prim.Native.Nat.{_*_, _≤_};
 ghost use lib.ListN.{length};
 ghost use Rattle.outcome.specs.Outcome.{Answers, Leaves};
-ghost use Rattle.writer.specs.Creation.{firstWritten, creationRefusal, Creates};
-ghost use Rattle.writer.specs.Bounds.{Storable};
+ghost use Rattle.fields.specs.FieldWrites.{firstWritten};
+ghost use Rattle.writer.specs.Creation.{creationRefusal, Creates};
+ghost use Rattle.fields.specs.Bounds.{Storable};
 
 // The refusal of a creation with these numbers: 1, then 3 to 8.
 fn creation_refusal(bytes: u64, settings: Settings) -> u32

@@ -6,12 +6,8 @@
 // `inner` are for the crates above, which have validated before they call.
 mod appending;
 mod creating;
-mod fields;
 pub mod inner;
-mod placing;
 mod rules;
-mod storing;
-mod tables;
 
 pub use appending::Appended;
 pub use appending::append;

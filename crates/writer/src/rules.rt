@@ -1,25 +1,17 @@
-// The rules of an append, 21 to 24, tested in the order of their table.
-use super::placing::entry_start;
+// Rules 21 and 22, on what is handed to an append, tested in the order of their table.
 use descriptor::DescriptorNumbers;
-use descriptor::inner::mex;
-use geometry::ExtensionNumber;
-use geometry::Growth;
 use geometry::byte_offset;
-use geometry::capacity;
 use layout::entry_descriptor::PLACES;
 ghost use mathlib.Core.Path.{_≡_};
 ghost use mathlib.Core.Bool.{true};
-ghost use Prim.Native.Nat.{_^_, _≤_, _<_};
+ghost use Prim.Native.Nat.{_≤_};
 ghost use lib.ListN.{length};
 ghost use lib.Dec.{eqb};
 ghost use Rattle.outcome.specs.Outcome.{Answers};
 ghost use Rattle.geometry.specs.Units.{offsetOf};
-ghost use Rattle.descriptor.specs.FirstRecord.{freeOf};
-ghost use Rattle.descriptor.specs.Bounds.{Settled, Free};
-ghost use Rattle.writer.specs.Handed.{absent, distinct, positive, sumOf};
-ghost use Rattle.writer.specs.Placing.{full};
-ghost use Rattle.writer.specs.Rules.{handedRefusal, extensionRefusal, spaceRefusal};
-ghost use Rattle.writer.specs.Bounds.{Extensible};
+ghost use Rattle.descriptor.specs.Bounds.{Settled};
+ghost use Rattle.storing.specs.Handed.{absent, distinct, positive, sumOf};
+ghost use Rattle.writer.specs.Rules.{handedRefusal};
 
 // Whether an identifier is none of the first `count`.
 fn is_absent(ids: &[i32], identifier: i32, count: usize) -> bool
@@ -119,35 +111,6 @@ pub(crate) fn handed_refusal(
     }
     if values.len() % 4 != 0 {
         return 22;
-    }
-    0
-}
-
-// Rule 23, whether another extension may be made where one is needed: 0 or 23.
-pub(crate) fn extension_refusal(d: DescriptorNumbers, extend: bool) -> u32
-    requires { ⌜ Settled d × (extend ≡ full d) ⌝ }
-    ensures { λ r. ⌜ Answers (extensionRefusal d) r ⌝ }
-{
-    if !extend {
-        return 0;
-    }
-    if mex(d.reclen) <= d.nex {
-        return 23;
-    }
-    let entries = capacity(Growth::new(d.lex1, d.gex), ExtensionNumber(d.nex + 1));
-    if Growth::CAPACITY_MAX < entries {
-        return 23;
-    }
-    0
-}
-
-// Rule 24, whether an entry of `nword` words ends within the buffer: 0 or 24.
-pub(crate) fn space_refusal(bytes: u64, d: DescriptorNumbers, extend: bool, nword: u64) -> u32
-    requires { ⌜ Settled d × Free d × (freeOf d ≤ 2 ^ 28) × (extend ≡ full d) × Extensible d × (nword < 2 ^ 63) ⌝ }
-    ensures { λ r. ⌜ Answers (spaceRefusal bytes d nword) r ⌝ }
-{
-    if bytes / 4 < entry_start(d, extend) + nword {
-        return 24;
     }
     0
 }

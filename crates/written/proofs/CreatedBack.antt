@@ -1,7 +1,6 @@
 -- Validating a file that `create` made gives the numbers of a new file, and no addresses. Assumes nothing.
 use Prim.Native.Nat.{ℕ, _+_, _^_, _≤_, _<_}
 use mathlib.Core.Path.{_≡_, refl, sym, ap, _∙_}
-use mathlib.Core.Bool.{true}
 use mathlib.Core.List.{List, _++_}
 use native.Mathlib.Omega.{arith}
 use borrow.Author.Tests.{leb-true, le-leb}
@@ -20,20 +19,19 @@ use Rattle.geometry.specs.declared.units.RecordNumber.{RecordNumber}
 use Rattle.geometry.specs.Units.{positionOf, firstRecordOffsetOf}
 use Rattle.descriptor.specs.declared.numbers.Settings.{Settings}
 use Rattle.descriptor.specs.declared.numbers.DescriptorNumbers.{DescriptorNumbers}
-use Rattle.descriptor.specs.declared.validating.Validated.the-variants.{Numbers}
 use Rattle.layout.specs.FirstRecordWords.{fileCode, reclenWord, kindWord, vindWord, lindWord, flagsWord, xnextWord, nextrecWord, nextwordWord, lex1Word, nexWord, gexWord}
 use Rattle.descriptor.specs.FirstRecord.{fileCodeOf, field4, field8, numbersOf, createdOf, addressesOf, freeOf}
 use Rattle.descriptor.specs.Areas.{areaAfter, areasStart, areasEnd}
 use Rattle.descriptor.specs.Rules.{settingRules, settingRefusal, creationRules, entriesFit}
 use Rattle.descriptor.specs.Bounds.{Admitted}
-use Rattle.descriptor.specs.Answers.{validationOf}
 use Rattle.descriptor.proofs.Refusals.{refusal-none, all-hold}
 use Rattle.descriptor.proofs.Passed.{settled, lent}
-use Rattle.writer.specs.Creation.{settingWrites, countWrites, growthWrites, firstWritten, creationRefusal, createdFile}
-use Rattle.writer.specs.Bounds.{Storable}
+use Rattle.fields.specs.FieldWrites.{settingWrites, countWrites, growthWrites, firstWritten}
+use Rattle.writer.specs.Creation.{creationRefusal, createdFile}
+use Rattle.fields.specs.Bounds.{Storable}
 use Rattle.writer.proofs.Created.{created-fits}
-use Rattle.descriptor.proofs.Admitting.{apt}
-use Rattle.descriptor.proofs.Admitting.{validated}
+use Rattle.descriptor.proofs.Admitting.{apt, validated}
+use Rattle.written.proofs.ReadBack.{Validates}
 
 -- the addresses of a new file: none
 abbrev pub noAddresses : List RecordNumber
@@ -52,19 +50,9 @@ module _ (bytes : ℕ) (s : Settings) (e : creationRefusal bytes s ≡ 0) where
       let rows = all-hold (creationRules bytes d) (omega arith) e in
       (leb-true 64 bytes (rows .0), refusal-none (settingRules bytes d) (rows .1))
 
-  -- the next free position is the first word of record 2
-  free-second : freeOf d ≡ d .reclen
-  unfolding createdOf positionOf
-  free-second = omega arith
-
-  -- and no area ends behind it
-  ends-second : areasEnd d noAddresses ≡ true
-  unfolding createdOf areaAfter areasEnd
-  ends-second = le-leb (freeOf d) (freeOf d) (omega arith)
-
   -- rules 9 to 11: no entries in no extensions
   pub created-admitted : Admitted bytes d noAddresses
-  unfolding createdOf entriesFit areasStart
+  unfolding createdOf entriesFit areasStart areaAfter areasEnd positionOf
   created-admitted =
       let t = settled bytes d (passed .1) in
       let l = lent bytes d (passed .1) (passed .0) in
@@ -74,9 +62,9 @@ module _ (bytes : ℕ) (s : Settings) (e : creationRefusal bytes s ≡ 0) where
         counted = omega arith;
         fit = refl;
         free = record { record-low = omega arith; record-high = omega arith; word-low = omega arith; word-high = omega (arith, t .reclen-low) };
-        room = omega (arith, free-second, l .first);
+        room = omega (arith, l .first);
         started = refl;
-        ended = ends-second;
+        ended = le-leb (freeOf d) (freeOf d) (omega arith);
         table = refl;
       }
 
@@ -88,21 +76,7 @@ firstWrites d = settingWrites d ++ (countWrites d ++ growthWrites d)
 
 -- they follow one another from the file's start
 pub first-follows : (d : DescriptorNumbers) → Follows 0 (firstWrites d)
-first-follows d =
-    omega (
-      arith,
-      length-numeral 4 (d .reclen),
-      length-numeral 4 (d .kind),
-      length-numeral 4 (d .vind),
-      length-numeral 4 (d .lind),
-      length-numeral 4 (d .flags),
-      length-numeral 8 (d .xnext .0),
-      length-numeral 8 (d .nextrec .0),
-      length-numeral 4 (d .nextword .0),
-      length-numeral 4 (d .lex1),
-      length-numeral 4 (d .nex),
-      length-numeral 4 (d .gex),
-    )
+first-follows d = simp length-numeral (omega arith)
 
 module _ (file : List ℕ) (d : DescriptorNumbers) where
   -- made in three parts, or in one
@@ -132,30 +106,19 @@ module _ (file : List ℕ) (d : DescriptorNumbers) where
     numbers-first : Storable d → d .xnext .0 < 2 ^ 64 → d .nextrec .0 < 2 ^ 64 → numbersOf (firstWritten file d) ≡ d
     unfolding numbersOf field4 field8
     numbers-first t x r =
-        let reclen = field-first w32 1 (firstRecordOffsetOf reclenWord) (d .reclen) refl (t .reclen) (omega arith) in
-        let kind = field-first w32 2 (firstRecordOffsetOf kindWord) (d .kind) refl (t .kind) (omega arith) in
-        let vind = field-first w32 3 (firstRecordOffsetOf vindWord) (d .vind) refl (t .vind) (omega arith) in
-        let lind = field-first w32 4 (firstRecordOffsetOf lindWord) (d .lind) refl (t .lind) (omega arith) in
-        let flags = field-first w32 5 (firstRecordOffsetOf flagsWord) (d .flags) refl (t .flags) (omega arith) in
-        let xnext = field-first w64 6 (firstRecordOffsetOf xnextWord) (d .xnext .0) refl x (omega arith) in
-        let nextrec = field-first w64 7 (firstRecordOffsetOf nextrecWord) (d .nextrec .0) refl r (omega arith) in
-        let nextword = field-first w32 8 (firstRecordOffsetOf nextwordWord) (d .nextword .0) refl (t .nextword) (omega arith) in
-        let lex1 = field-first w32 9 (firstRecordOffsetOf lex1Word) (d .lex1) refl (t .lex1) (omega arith) in
-        let nex = field-first w32 10 (firstRecordOffsetOf nexWord) (d .nex) refl (t .nex) (omega arith) in
-        let gex = field-first w32 11 (firstRecordOffsetOf gexWord) (d .gex) refl (t .gex) (omega arith) in
-        λ i. record {
-          reclen = reclen i;
-          kind = kind i;
-          vind = vind i;
-          lind = lind i;
-          flags = flags i;
-          xnext = record { 0 = xnext i };
-          nextrec = record { 0 = nextrec i };
-          nextword = record { 0 = nextword i };
-          lex1 = lex1 i;
-          nex = nex i;
-          gex = gex i;
-        }
+        rw (
+          field-first w32 1 (firstRecordOffsetOf reclenWord) (d .reclen) refl (t .reclen) (omega arith),
+          field-first w32 2 (firstRecordOffsetOf kindWord) (d .kind) refl (t .kind) (omega arith),
+          field-first w32 3 (firstRecordOffsetOf vindWord) (d .vind) refl (t .vind) (omega arith),
+          field-first w32 4 (firstRecordOffsetOf lindWord) (d .lind) refl (t .lind) (omega arith),
+          field-first w32 5 (firstRecordOffsetOf flagsWord) (d .flags) refl (t .flags) (omega arith),
+          field-first w64 6 (firstRecordOffsetOf xnextWord) (d .xnext .0) refl x (omega arith),
+          field-first w64 7 (firstRecordOffsetOf nextrecWord) (d .nextrec .0) refl r (omega arith),
+          field-first w32 8 (firstRecordOffsetOf nextwordWord) (d .nextword .0) refl (t .nextword) (omega arith),
+          field-first w32 9 (firstRecordOffsetOf lex1Word) (d .lex1) refl (t .lex1) (omega arith),
+          field-first w32 10 (firstRecordOffsetOf nexWord) (d .nex) refl (t .nex) (omega arith),
+          field-first w32 11 (firstRecordOffsetOf gexWord) (d .gex) refl (t .gex) (omega arith),
+        )
 
 -- ---- validating a file that was created
 
@@ -165,22 +128,15 @@ module _ (file : List ℕ) (s : Settings) (e : creationRefusal (length file) s �
   unfolding createdFile
   created-written = rw e
 
-  numbers-created : numbersOf (firstWritten file (createdOf s)) ≡ createdOf s
-  unfolding createdOf
-  numbers-created = numbers-first file (createdOf s) (passed (length file) s e .0) (created-fits (length file) s e .0) (omega arith) (omega arith)
-
-  addresses-created : addressesOf (firstWritten file (createdOf s)) (createdOf s .nex) ≡ noAddresses
-  unfolding addressesOf createdOf
-  addresses-created = refl
-
   -- it is admitted, with the numbers of a new file and no addresses
-  pub created-validated : validationOf (createdFile file s) ≡ record { refusal = 0; numbers = Numbers (createdOf s); addresses = noAddresses }
+  pub created-validated : Validates (createdFile file s) (createdOf s) noAddresses
+  unfolding createdOf addressesOf
   created-validated =
       let same = length-first file (createdOf s) in
       let p = passed (length file) s e in
-      ap validationOf created-written
-      ∙ validated (firstWritten file (createdOf s)) (createdOf s) noAddresses numbers-created addresses-created
+      rw created-written
+      (validated (firstWritten file (createdOf s)) (createdOf s) noAddresses (numbers-first file (createdOf s) (p .0) (created-fits (length file) s e .0) (omega arith) (omega arith)) refl
       (omega (arith, same, p .0))
       (ap (λ (l : List ℕ). sameBytes l fileCode) (code-first file (createdOf s) (p .0)) ∙ same-self fileCode)
       (apt (length file) (createdOf s) (p .1))
-      (rw same (created-admitted (length file) s e))
+      (rw same (created-admitted (length file) s e)))

@@ -1,5 +1,5 @@
--- The file after an accepted append: what was written, and that validating it gives the numbers and addresses that the append answers. Assumes nothing.
-use Prim.Native.Nat.{ℕ, _+_}
+-- An append to a file that validates, accepted: what was written, and that validating it gives the numbers and addresses that the append answers. Assumes nothing.
+use Prim.Native.Nat.{ℕ}
 use mathlib.Core.Path.{_≡_, refl, ap, _∙_}
 use mathlib.Core.List.{List}
 use native.Mathlib.Omega.{arith}
@@ -13,52 +13,46 @@ use Rattle.layout.specs.FirstRecordWords.{fileCode}
 use Rattle.descriptor.specs.FirstRecord.{numbersOf, addressesOf}
 use Rattle.descriptor.specs.Rules.{fileRefusal}
 use Rattle.descriptor.specs.Answers.{validationOf}
-use Rattle.descriptor.proofs.Answered.{file-passed, answer-numbers}
-use Rattle.writer.specs.Handed.{Handed, nwordIn}
-use Rattle.writer.specs.Placing.{entryStart, nexAfter, numbersAfter, addressesAfter}
+use Rattle.descriptor.proofs.Answered.{file-passed, file-admitted, answer-numbers}
+use Rattle.storing.specs.Handed.{Handed}
+use Rattle.placing.specs.Placing.{numbersAfter}
 use Rattle.writer.specs.Rules.{appendRefusal}
-use Rattle.writer.specs.Writing.{appended}
 use Rattle.writer.specs.Answers.{fileFrom, fileIn, fileAfter}
-use Rattle.writer.specs.Bounds.{Accepted}
-use Rattle.writer.proofs.Accepting.{admitted-after}
-use Rattle.descriptor.proofs.Admitting.{Apt}
-use Rattle.descriptor.proofs.Admitting.{apt}
-use Rattle.descriptor.proofs.Admitting.{validated}
-use Rattle.written.proofs.FirstRecordAfter.{length-appended, code-kept, numbers-read, addresses-read}
+use Rattle.storing.specs.Bounds.{Accepted}
+use Rattle.writer.proofs.HandedIn.{accepted}
+use Rattle.descriptor.proofs.Admitting.{Apt, apt, validated}
+use Rattle.written.proofs.AppendLeaves.{new, then, areasThen, left}
+use Rattle.written.proofs.FirstRecordAfter.{code-kept, numbers-read, addresses-read}
 
-apt-after : (d : DescriptorNumbers) (end : ℕ) → Apt d → Apt (numbersAfter d end)
-unfolding numbersAfter
-apt-after d end t = record { kind = t .kind; vind = t .vind; flags = t .flags }
+-- a file validates with these numbers and addresses
+abbrev pub Validates : List ℕ → DescriptorNumbers → List RecordNumber → Type 0
+Validates file d addresses = validationOf file ≡ record { refusal = 0; numbers = Numbers d; addresses = addresses }
 
-nex-now : (d : DescriptorNumbers) (end : ℕ) → numbersAfter d end .nex ≡ nexAfter d
-unfolding numbersAfter
-nex-now d end = refl
+-- an append to the numbers of a file that is not refused
+module _ (file : List ℕ) (z : fileRefusal file ≡ 0) {h : Handed} (x : Accepted (length file) (numbersOf file) (addressesOf file (numbersOf file .nex)) h) where
+  -- rules 5 to 7 hold of it still
+  apt-after : Apt (then file x)
+  unfolding numbersAfter
+  apt-after = let t = apt (length file) (numbersOf file) (file-passed file z .settings) in record { kind = t .kind; vind = t .vind; flags = t .flags }
 
-module _ (file : List ℕ) (h : Handed) where
-  abbrev d : DescriptorNumbers
-  d = numbersOf file
-
-  abbrev addresses : List RecordNumber
-  addresses = addressesOf file (d .nex)
-
-  abbrev end : ℕ
-  end = entryStart d + nwordIn h
-
-  -- all that an append writes is written
-  pub file-written : fileRefusal file ≡ 0 → appendRefusal (length file) d h ≡ 0 → fileAfter file h ≡ appended file d addresses h
-  unfolding fileIn fileFrom
-  file-written z a = rw (answer-numbers file z, eq-eqb (appendRefusal (length file) d h) 0 a)
-
-  -- and validated
-  pub validated-after : fileRefusal file ≡ 0 → Accepted (length file) d addresses h
-      → validationOf (appended file d addresses h) ≡ record { refusal = 0; numbers = Numbers (numbersAfter d end); addresses = addressesAfter d addresses }
-  validated-after z x =
+  -- validating the file after it gives the numbers and addresses after it
+  pub validated-after : Validates (new file x) (then file x) (areasThen file x)
+  validated-after =
       let p = file-passed file z in
-      let same = length-appended file d addresses h x in
-      validated (appended file d addresses h) (numbersAfter d end) (addressesAfter d addresses)
-      (numbers-read file d addresses h x refl)
-      (ap (addressesOf (appended file d addresses h)) (nex-now d end) ∙ addresses-read file d addresses h x refl)
-      (omega (arith, same, p .long))
-      (ap (λ (l : List ℕ). sameBytes l fileCode) (code-kept file d addresses h x) ∙ p .code)
-      (apt-after d end (apt (length file) d (p .settings)))
-      (rw same (admitted-after (length file) d addresses h x))
+      let l = left file x in
+      validated (new file x) (then file x) (areasThen file x) (numbers-read file x refl) (addresses-read file x refl)
+      (omega (arith, p .long))
+      (ap (λ (l : List ℕ). sameBytes l fileCode) (code-kept file x) ∙ p .code)
+      apt-after
+      (rw (l .size) (l .admitted))
+
+-- an append to a file that is not refused either
+module _ (file : List ℕ) (h : Handed) (z : fileRefusal file ≡ 0) (a : appendRefusal (length file) (numbersOf file) h ≡ 0) where
+  -- is accepted
+  pub admits : Accepted (length file) (numbersOf file) (addressesOf file (numbersOf file .nex)) h
+  admits = accepted (numbersOf file) h (length file) (addressesOf file (numbersOf file .nex)) (file-admitted file z) a
+
+  -- and all that it writes is written
+  pub file-written : fileAfter file h ≡ new file admits
+  unfolding fileIn fileFrom
+  file-written = rw (answer-numbers file z, eq-eqb (appendRefusal (length file) (numbersOf file) h) 0 a)

@@ -2,7 +2,6 @@
 use mathlib.Core.Path.{_≡_, refl, sym, ap, _∙_}
 use Prim.Native.Nat.{_-_, _≤_}
 use native.Mathlib.Omega.{arith}
-use denote.Ref.{now}
 use lib.ListN.{length, take, length-set}
 use lib.Seq.{take-all}
 use Rattle.image.specs.Image.{splice}
@@ -16,12 +15,6 @@ Inv-loop image₀ at bytes done₀ image done = (done ≤ length bytes) × (leng
 abbrev μ-loop : tie.MeasureT-loop
 μ-loop image₀ at bytes done₀ image done = length bytes - done
 
-loop-again : tie.Need-loop-again Inv-loop μ-loop
-loop-again c =
-    let a = c .before .before .before .args in
-    let l = c .before .before .loop in
-    (omega arith, simp length-set (l .inv .1), splice-next (now (a .image)) (a .at) (now (a .bytes)) (l .image) (l .done) (l .inv .2) (omega arith) (omega arith))
-
 pub put-spec : {M : Type 1} → statement M
 put-spec =
     tie.close
@@ -29,11 +22,7 @@ put-spec =
     Inv-loop
     μ-loop
     (λ c. (omega arith, refl, sym (splice-nil _ _)))
-    (λ c. omega arith)
-    (λ c. omega arith)
-    (λ c. omega arith)
-    (λ c. omega arith)
-    (λ c. omega arith)
-    loop-again
+    (λ c. omega arith) (λ c. omega arith) (λ c. omega arith) (λ c. omega arith) (λ c. omega arith)
+    (λ c. let l = c .before .before .loop in (omega arith, simp length-set (l .inv .1), splice-next _ _ _ _ (l .done) (l .inv .2) (omega arith)))
     (λ c. omega arith)
     (λ c. c .before .loop .inv .2 ∙ ap (splice _ _) (take-all _ _ (c .loop-test .left))))

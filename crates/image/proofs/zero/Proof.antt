@@ -2,7 +2,6 @@
 use mathlib.Core.Path.{_≡_, refl, sym, ap, _∙_}
 use Prim.Native.Nat.{_-_, _≤_}
 use native.Mathlib.Omega.{arith}
-use denote.Ref.{now}
 use lib.ListN.{length, take, length-set}
 use lib.Seq.{take-all}
 use Rattle.image.specs.Image.{splice, zeros}
@@ -16,17 +15,6 @@ Inv-loop image₀ at count done₀ image done = (done ≤ count) × (length imag
 abbrev μ-loop : tie.MeasureT-loop
 μ-loop image₀ at count done₀ image done = count - done
 
-loop-again : tie.Need-loop-again Inv-loop μ-loop
-loop-again c =
-    let a = c .before .before .args in
-    let l = c .before .loop in
-    (omega arith, simp length-set (l .inv .1), zeros-next (now (a .image)) (a .at) (a .count) (l .image) (l .done) (l .inv .2) (omega arith) (omega arith))
-
-returns : tie.Need-returns Inv-loop μ-loop
-returns c =
-    let n = c .before .before .args .count in
-    c .before .loop .inv .2 ∙ ap (splice _ _) (take-all (c .before .loop .done) (zeros n) (omega (arith, length-zeros n)))
-
 pub zero-spec : {M : Type 1} → statement M
 zero-spec =
     tie.close
@@ -34,10 +22,7 @@ zero-spec =
     Inv-loop
     μ-loop
     (λ c. (omega arith, refl, sym (splice-nil _ _)))
+    (λ c. omega arith) (λ c. omega arith) (λ c. omega arith) (λ c. omega arith)
+    (λ c. let l = c .before .loop in (omega arith, simp length-set (l .inv .1), zeros-next _ _ _ _ (l .done) (l .inv .2) (omega arith)))
     (λ c. omega arith)
-    (λ c. omega arith)
-    (λ c. omega arith)
-    (λ c. omega arith)
-    loop-again
-    (λ c. omega arith)
-    returns)
+    (λ c. c .before .loop .inv .2 ∙ ap (splice _ _) (take-all (c .before .loop .done) (zeros (c .before .before .args .count)) (rw length-zeros (c .loop-test .left)))))

@@ -2,32 +2,21 @@
 use borrow.Author.Needs.{needs}
 use denote.Ref.{now}
 use mir.Facts.{toZ-ofZ}
-use Rattle.writer.specs.Handed.{handedIn}
+use Rattle.storing.specs.Handed.{handedIn}
 use Rattle.witness.proofs.Promised.{twice}
 use Rattle.witness.proofs.append_twice.Statement.{statement}
 use Rattle.witness.proofs.append_twice.Tie as tie
 
-read-identifiers-requires : tie.Need-read-identifiers-requires
-read-identifiers-requires c κs = search needs
-
-read-identifiers-requires-2 : tie.Need-read-identifiers-requires-2
-read-identifiers-requires-2 c κs = search needs
-
-append-requires : tie.Need-append-requires
-append-requires c κs = search needs
-
-append-requires-2 : tie.Need-append-requires-2
-append-requires-2 c κs = search needs
-
-same-length : tie.Need-same-length
-same-length c = search needs
+-- where the function begins, before anything is known of its slices
+abbrev begin : tie.After-shared-slice-known3 → tie.Start
+begin c = c .before .before .before .before
 
 returns : tie.Need-returns
 returns c =
     let second = c .before .before in
     let first = second .before .before .before .before in
     let read = first .before .before in
-    let s = read .before .before .before .before .before .before .before .before .before in
+    let s = begin (read .before .before .before .before .before) in
     let a = s .args in
     let p = rw (toZ-ofZ (s .fits .version)) at (first .append .ensures) in
     let q = rw (toZ-ofZ (s .fits .next-version)) at (second .append2 .ensures) in
@@ -38,4 +27,5 @@ returns c =
     (record { version = s .fits .version; ids = read .before .read-identifiers .ensures }) (record { version = s .fits .next-version; ids = read .read-identifiers2 .ensures }) p q
 
 pub append-twice-spec : {M : Type 1} → statement M
-append-twice-spec = tie.close (tie.spec read-identifiers-requires read-identifiers-requires-2 append-requires append-requires-2 same-length returns)
+append-twice-spec =
+    tie.close (tie.spec (λ c κs. search needs) (λ c κs. search needs) (λ c κs. search needs) (λ c κs. search needs) (λ c. search needs) returns)

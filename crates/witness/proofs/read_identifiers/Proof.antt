@@ -19,21 +19,6 @@ Inv-loop ids done₀ done = (done ≤ length ids) × ((i : ℕ) → i < done →
 abbrev μ-loop : tie.MeasureT-loop
 μ-loop ids done₀ done = length ids - done
 
-loop-holds : tie.Need-loop-holds Inv-loop μ-loop
-loop-holds c = (omega arith, λ i l. absurd (omega arith))
-
-mul--identifier : tie.Need-mul--identifier Inv-loop μ-loop
-mul--identifier c = search needs
-
-shared-slice-copy-out--identifier : tie.Need-shared-slice-copy-out--identifier Inv-loop μ-loop
-shared-slice-copy-out--identifier c = search needs
-
-add-done : tie.Need-add-done Inv-loop μ-loop
-add-done c = search needs
-
-loop-less : tie.Need-loop-less Inv-loop μ-loop
-loop-less c = search needs
-
 loop-again : tie.Need-loop-again Inv-loop μ-loop
 loop-again c =
     let l = c .before .before .loop in
@@ -41,19 +26,16 @@ loop-again c =
     let here : SFits integer4 (getD ids (l .done) (pos 0)) = sfits-of (c .-identifier .given) in
     (omega arith, λ i h. elim (decLe (l .done) i) [ yes m ↦ (let q : l .done ≡ i = omega arith in subst (λ (k : ℕ). SFits integer4 (getD ids k (pos 0))) q here) | no m ↦ l .inv .1 i (lt-of-not-le m) ])
 
-returns : tie.Need-returns Inv-loop μ-loop
-returns c = λ i h. c .before .loop .inv .1 i (omega arith)
-
 pub read-identifiers-spec : {M : Type 1} → statement M
 read-identifiers-spec =
     tie.close
     (tie.spec
     Inv-loop
     μ-loop
-    loop-holds
-    mul--identifier
-    shared-slice-copy-out--identifier
-    add-done
-    loop-less
+    (λ c. (omega arith, λ i l. absurd (omega arith)))
+    (λ c. search needs)
+    (λ c. search needs)
+    (λ c. search needs)
+    (λ c. search needs)
     loop-again
-    returns)
+    (λ c i h. c .before .loop .inv .1 i (omega arith)))

@@ -1,7 +1,7 @@
 -- `classic::parts::classic_data` meets its contract: the place lies within the file. Assumes nothing.
 use mathlib.Core.Path.{ap, _∙_}
 use lib.ListN.{length}
-use Rattle.entry.proofs.Handing.{Inside, data-words-inside}
+use Rattle.handing.proofs.Handing.{Inside, data-words-inside}
 use Rattle.classic.specs.Answers.{partFor}
 use borrow.Author.Needs.{needs}
 use Rattle.classic.proofs.parts.classic_data.Statement.{statement}

@@ -2,8 +2,8 @@
 use mathlib.Core.Path.{_≡_, ap, _∙_}
 use lib.ListN.{length}
 use mir.Facts.{toZ-ofZ}
-use Rattle.entry.specs.Answers.{sectionWordsOf}
-use Rattle.entry.proofs.Handing.{Inside, section-words-inside}
+use Rattle.handing.specs.Parts.{sectionWordsOf}
+use Rattle.handing.proofs.Handing.{Inside, section-words-inside}
 use Rattle.classic.specs.Answers.{partFor}
 use borrow.Author.Needs.{needs}
 use Rattle.classic.proofs.parts.classic_section.Statement.{statement}

@@ -12,25 +12,9 @@ use Rattle.classic.proofs.tables.entry_addresses.Tie as tie
 abbrev Inv-loop : tie.InvT-loop
 Inv-loop table numbers₀ filled₀ numbers filled = Filling 64 64 (place (λ (r : EntryAddress). r .0) (record { 0 = 0 }) table) 0 numbers filled
 
-abbrev μ-loop : tie.MeasureT-loop
-μ-loop table numbers₀ filled₀ numbers filled = 64 - filled
-
-returns : tie.Need-returns Inv-loop μ-loop
-unfolding entryAddresses
-returns c = all-filled _ _ (c .before .before .args .t1) (c .before .loop .inv) (omega arith) (omega arith)
-
 pub entry-addresses-spec : {M : Type 1} → statement M
+unfolding entryAddresses
 entry-addresses-spec =
     tie.close
-    (tie.spec
-    Inv-loop
-    μ-loop
-    (λ c. filling-none)
-    (λ c. omega arith)
-    (λ c. omega arith)
-    (λ c. omega arith)
-    (λ c. omega arith)
-    (λ c. omega arith)
-    (λ c. omega arith)
-    (λ c. filling-next (c .before .before .loop .inv) (omega arith) (omega arith) refl)
-    returns)
+    (tie.spec Inv-loop (λ table numbers₀ filled₀ numbers filled. 64 - filled) (λ c. filling-none) (λ c. omega arith) (λ c. omega arith) (λ c. omega arith) (λ c. omega arith) (λ c. omega arith) (λ c. omega arith)
+    (λ c. filling-next (c .before .before .loop .inv) (omega arith) (omega arith) refl) (λ c. all-filled _ _ (c .before .before .args .t1) (c .before .loop .inv) (omega arith) (omega arith)))

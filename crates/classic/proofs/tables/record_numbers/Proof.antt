@@ -12,25 +12,9 @@ use Rattle.classic.proofs.tables.record_numbers.Tie as tie
 abbrev Inv-loop : tie.InvT-loop
 Inv-loop table numbers₀ filled₀ numbers filled = Filling 16 16 (place (λ (r : RecordNumber). r .0) (record { 0 = 0 }) table) 0 numbers filled
 
-abbrev μ-loop : tie.MeasureT-loop
-μ-loop table numbers₀ filled₀ numbers filled = 16 - filled
-
-returns : tie.Need-returns Inv-loop μ-loop
-unfolding recordNumbers
-returns c = all-filled _ _ (c .before .before .args .t1) (c .before .loop .inv) (omega arith) (omega arith)
-
 pub record-numbers-spec : {M : Type 1} → statement M
+unfolding recordNumbers
 record-numbers-spec =
     tie.close
-    (tie.spec
-    Inv-loop
-    μ-loop
-    (λ c. filling-none)
-    (λ c. omega arith)
-    (λ c. omega arith)
-    (λ c. omega arith)
-    (λ c. omega arith)
-    (λ c. omega arith)
-    (λ c. omega arith)
-    (λ c. filling-next (c .before .before .loop .inv) (omega arith) (omega arith) refl)
-    returns)
+    (tie.spec Inv-loop (λ table numbers₀ filled₀ numbers filled. 16 - filled) (λ c. filling-none) (λ c. omega arith) (λ c. omega arith) (λ c. omega arith) (λ c. omega arith) (λ c. omega arith) (λ c. omega arith)
+    (λ c. filling-next (c .before .before .loop .inv) (omega arith) (omega arith) refl) (λ c. all-filled _ _ (c .before .before .args .t1) (c .before .loop .inv) (omega arith) (omega arith)))

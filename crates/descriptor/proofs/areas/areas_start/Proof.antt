@@ -1,5 +1,5 @@
 -- `descriptor::areas::areas_start` meets its contract. The loop's invariant: `after` is the record after the areas passed, which keep their order. Assumes nothing.
-use mathlib.Core.Path.{_≡_, sym, ap, subst, _∙_}
+use mathlib.Core.Path.{_≡_, sym, ap, _∙_}
 use Prim.Native.Nat.{_-_, _+_, _≤_}
 use mathlib.Core.Bool.{true}
 use native.Mathlib.Omega.{arith}
@@ -10,14 +10,12 @@ use Rattle.words.specs.Range.{atLeast}
 use Rattle.words.proofs.Ranges.{atLeast-bounds}
 use Rattle.words.proofs.Runs.{run-next, run-failed}
 use Rattle.geometry.specs.declared.units.RecordNumber.{RecordNumber}
-use Rattle.geometry.specs.declared.growth.Growth.{Growth}
-use Rattle.geometry.specs.Growth.{capacityOf, Growing}
+use Rattle.geometry.specs.Growth.{capacityOf}
 use Rattle.geometry.specs.Area.{areaRecords}
-use Rattle.geometry.proofs.Capacities.{capacity-limit}
 use Rattle.descriptor.specs.FirstRecord.{growthIn, aexOf}
 use Rattle.descriptor.specs.Areas.{areaAfter, areasStart}
 use Rattle.descriptor.proofs.Tests.{holds, broken}
-use Rattle.descriptor.proofs.AreaOrder.{record-none, record-next, starts-none, starts-run, area-small, growing}
+use Rattle.descriptor.proofs.AreaOrder.{record-none, record-next, starts-none, starts-run, area-small, capacity-asks, area-asks}
 use Rattle.descriptor.proofs.areas.areas_start.Statement.{statement}
 use Rattle.descriptor.proofs.areas.areas_start.Tie as tie
 
@@ -47,61 +45,10 @@ test c = rw (c .before .aex .ensures, at-loop (c .before) .loop .inv .1) at (c .
 own : (c : tie.After-capacity Inv-loop μ-loop) → c .capacity .result ≡ capacityOf (growthIn (start (own-loop c) .args .d)) (own-loop c .loop .passed + 1)
 own c = rw (own-loop c .before .new .ensures) at (c .capacity .ensures)
 
-returns : tie.Need-returns Inv-loop μ-loop
-returns c =
-    let l = at-loop (c .before .before) in
-    let a = start l .args in
-    sym (run-failed (starts-run (a .d) (a .addresses)) (l .loop .passed) (a .d .nex) (omega arith) (broken (test (c .before)) (c .if2 .taken)))
-
-capacity-requires : tie.Need-capacity-requires Inv-loop μ-loop
-capacity-requires c κs =
-    let l = at-loop (c .before .before) in
-    let s = start l in
-    let q : l .loop .passed + 1 - 1 ≡ l .loop .passed = omega arith in
-    let grows = subst (λ (g : Growth). Growing g (l .loop .passed)) (sym (l .before .new .ensures)) (growing (s .args .d) (l .loop .passed) (s .pre) (omega arith)) in
-    (omega arith, omega (arith, s .pre .nex-high), rw q grows)
-
-area-records-requires : tie.Need-area-records-requires Inv-loop μ-loop
-area-records-requires c κs =
-    let l = own-loop c in
-    let s = start l in (
-      rw (own c) (capacity-limit (growthIn (s .args .d)) (l .loop .passed + 1) (s .args .d .nex) (omega arith) (omega arith) (s .pre .within)),
-      s .pre .lind-high,
-      omega (arith, s .pre .reclen-low),
-      s .pre .reclen-high,
-    )
-
 -- the records of the next area, and where it starts
 records : (c : tie.After-area-records Inv-loop μ-loop) → let l = own-loop (c .before) in
     c .area-records .result ≡ areaRecords (capacityOf (growthIn (start l .args .d)) (l .loop .passed + 1)) (start l .args .d .lind) (start l .args .d .reclen)
 records c = rw (own (c .before)) at (c .area-records .ensures)
-
-add-t10 : tie.Need-add-t10 Inv-loop μ-loop
-add-t10 c =
-    let r = c .before in
-    let l = own-loop (r .before) in
-    let s = start l in
-    let tested = r .before .before .before in
-    let low = atLeast-bounds w64 (areaAfter (s .args .d) (s .args .addresses) (l .loop .passed) .0) (aexOf (s .args .addresses) (l .loop .passed + 1) .0) (holds (test tested) (r .before .before .if2 .left)) .1 in
-    let few = area-small (s .args .d) (s .args .addresses) (l .loop .passed + 1) (s .pre) (omega arith) (omega arith) in
-    omega (arith, records r, ap (λ (r : RecordNumber). r .0) (tested .before .aex .ensures))
-
-loop-again : tie.Need-loop-again Inv-loop μ-loop
-loop-again c =
-    let r = c .before in
-    let l = own-loop (r .before) in
-    let a = start l .args in
-    let tested = r .before .before .before in (
-      omega arith,
-      rw (tested .before .aex .ensures, records r) (sym (record-next (a .d) (a .addresses) (l .loop .passed))),
-      run-next (starts-run (a .d) (a .addresses)) (l .loop .passed) (l .loop .inv .2) ∙ holds (test tested) (r .before .before .if2 .left),
-    )
-
-returns-2 : tie.Need-returns-2 Inv-loop μ-loop
-returns-2 c =
-    let l = c .before .before in
-    let e : l .loop .passed ≡ start l .args .d .nex = omega arith in
-    sym (rw e at (l .loop .inv .2))
 
 pub areas-start-spec : {M : Type 1} → statement M
 areas-start-spec =
@@ -114,11 +61,28 @@ areas-start-spec =
     (λ c. omega arith)
     (λ c κs. omega arith)
     (λ c κs. search needs)
-    returns
-    capacity-requires
-    area-records-requires
-    add-t10
+    (λ c. let l = at-loop (c .before .before) in sym (run-failed (starts-run _ _) (l .loop .passed) _ (omega arith) (broken (test (c .before)) (c .if2 .taken))))
+    (λ c κs. let l = at-loop (c .before .before) in capacity-asks (start l .args .d) (l .loop .passed + 1) (start l .pre) (omega arith) (omega arith) (l .before .new .ensures))
+    (λ c κs. let l = own-loop c in area-asks (start l .args .d) (l .loop .passed + 1) (start l .pre) (omega arith) (omega arith) (own c))
+    (λ c.
+    let r = c .before in
+    let l = own-loop (r .before) in
+    let a = start l .args in
+    let tested = r .before .before .before in
+    let low = atLeast-bounds w64 (areaAfter (a .d) (a .addresses) (l .loop .passed) .0) (aexOf (a .addresses) (l .loop .passed + 1) .0) (holds (test tested) (r .before .before .if2 .left)) .1 in
+    let few = area-small (a .d) (a .addresses) (l .loop .passed + 1) (start l .pre) (omega arith) (omega arith) in
+    omega (arith, records r, ap (λ (r : RecordNumber). r .0) (tested .before .aex .ensures)))
     (λ c. omega arith)
     (λ c. omega arith)
-    loop-again
-    returns-2)
+    (λ c.
+    let r = c .before in
+    let l = own-loop (r .before) in
+    let tested = r .before .before .before in (
+      omega arith,
+      rw (tested .before .aex .ensures, records r) (sym (record-next _ _ (l .loop .passed))),
+      run-next (starts-run _ _) (l .loop .passed) (l .loop .inv .2) ∙ holds (test tested) (r .before .before .if2 .left),
+    ))
+    (λ c.
+    let l = c .before .before in
+    let e : l .loop .passed ≡ start l .args .d .nex = omega arith in
+    sym (rw e at (l .loop .inv .2))))

@@ -5,13 +5,6 @@ use borrow.Author.Needs.{needs}
 use Rattle.descriptor.proofs.inner.mex.Statement.{statement}
 use Rattle.descriptor.proofs.inner.mex.Tie as tie
 
-returns : tie.Need-returns
-unfolding mexOf
-returns c = omega arith
-
-returns-2 : tie.Need-returns-2
-unfolding mexOf
-returns-2 c = omega arith
-
 pub mex-spec : {M : Type 1} → statement M
-mex-spec = tie.close (tie.spec (λ c. search needs) returns returns-2)
+unfolding mexOf
+mex-spec = tie.close (tie.spec (λ c. search needs) (λ c. omega arith) (λ c. omega arith))

@@ -4,10 +4,6 @@ use borrow.Author.Needs.{needs}
 use Rattle.descriptor.proofs.numbers.field4_at.Statement.{statement}
 use Rattle.descriptor.proofs.numbers.field4_at.Tie as tie
 
-returns : tie.Need-returns
-unfolding field4
-returns c = rw (c .before .first-record-offset .ensures) at (c .u32-at .ensures)
-
 pub field4-at-spec : {M : Type 1} → statement M
-field4-at-spec =
-    tie.close (tie.spec (λ c κs. search needs) (λ c κs. search needs) (λ c. search needs) returns)
+unfolding field4
+field4-at-spec = tie.close (tie.spec (λ c κs. search needs) (λ c κs. search needs) (λ c. search needs) (λ c. rw (c .before .first-record-offset .ensures) at (c .u32-at .ensures)))

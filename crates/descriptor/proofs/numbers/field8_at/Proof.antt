@@ -4,9 +4,6 @@ use borrow.Author.Needs.{needs}
 use Rattle.descriptor.proofs.numbers.field8_at.Statement.{statement}
 use Rattle.descriptor.proofs.numbers.field8_at.Tie as tie
 
-returns : tie.Need-returns
-unfolding field8
-returns c = rw (c .before .first-record-offset .ensures) at (c .u64-at .ensures)
-
 pub field8-at-spec : {M : Type 1} → statement M
-field8-at-spec = tie.close (tie.spec (λ c κs. search needs) (λ c κs. search needs) returns)
+unfolding field8
+field8-at-spec = tie.close (tie.spec (λ c κs. search needs) (λ c κs. search needs) (λ c. rw (c .before .first-record-offset .ensures) at (c .u64-at .ensures)))

@@ -4,11 +4,8 @@ use borrow.Author.Needs.{needs}
 use Rattle.descriptor.proofs.numbers.numbers_of.Statement.{statement}
 use Rattle.descriptor.proofs.numbers.numbers_of.Tie as tie
 
-returns : tie.Need-returns
-unfolding numbersOf
-returns c = cc
-
 pub numbers-of-spec : {M : Type 1} → statement M
+unfolding numbersOf
 numbers-of-spec =
     tie.close
     (tie.spec
@@ -23,4 +20,4 @@ numbers-of-spec =
     (λ c κs. search needs)
     (λ c κs. search needs)
     (λ c κs. search needs)
-    returns)
+    (λ c. cc))

@@ -4,11 +4,8 @@ use borrow.Author.Needs.{needs}
 use Rattle.descriptor.proofs.rules.code_holds.Statement.{statement}
 use Rattle.descriptor.proofs.rules.code_holds.Tie as tie
 
-returns : tie.Need-returns
-unfolding fileCodeOf
-returns c = rw (c .before .first-record-offset .ensures) at (c .code-at .ensures)
-
 pub code-holds-spec : {M : Type 1} → statement M
+unfolding fileCodeOf
 code-holds-spec =
     tie.close
     (tie.spec
@@ -18,4 +15,4 @@ code-holds-spec =
     (λ c. search needs)
     (λ c. search needs)
     (λ c κs. search needs)
-    returns)
+    (λ c. rw (c .before .first-record-offset .ensures) at (c .code-at .ensures)))

@@ -1,19 +1,19 @@
 -- `descriptor::rules::filling_refusal` meets its contract: each test is a row of the table, passed one after the other. Assumes nothing.
-use Prim.Native.Nat.{ℕ, _/_}
-use mathlib.Core.Path.{_≡_, refl, sym}
-use mathlib.Core.Bool.{false}
+use Prim.Native.Nat.{_/_}
+use mathlib.Core.Path.{_≡_, refl}
 use mathlib.Core.List.{List}
 use native.Mathlib.Omega.{arith}
 use borrow.Author.Tests.{leb-true}
-use mir.Syntax.{w32, w64}
-use Rattle.words.proofs.Ranges.{within-bounds, atLeast-bounds}
+use mir.Syntax.{w64}
+use Rattle.words.proofs.Ranges.{atLeast-bounds}
 use Rattle.geometry.specs.Units.{entriesBefore}
 use Rattle.descriptor.specs.Refusal.{Rule}
 use Rattle.descriptor.specs.FirstRecord.{growthIn, freeOf}
 use Rattle.descriptor.specs.Rules.{entriesFit, fillingRules, fillingRefusal}
 use Rattle.descriptor.proofs.Tests.{holds, broken}
-use Rattle.descriptor.proofs.Refusals.{Past, past-none, next, holdsAt, numberAt, refusal-at}
-use Rattle.descriptor.proofs.Passed.{free-of}
+use Rattle.descriptor.proofs.Refusals.{Past, past-none, next, stop}
+use Rattle.descriptor.proofs.Passed.{place-low, place-bounds}
+use Rattle.descriptor.specs.Bounds.{Free}
 use Rattle.descriptor.proofs.AreaOrder.{growing}
 use borrow.Author.Needs.{needs}
 use Rattle.descriptor.proofs.rules.filling_refusal.Statement.{statement}
@@ -44,49 +44,30 @@ past-5 c = next (past-4 (c .before .before)) (holds (c .before .position-within 
 abbrev past-6 : tie.Else6 → Past rules 6
 past-6 c = next (past-5 (c .before .before)) (holds (c .before .areas-start .ensures) (c .if6 .left))
 
--- a test that fails gives the refusal of its row, and 0 is given where none fails
-stop : {k : ℕ} (p : Past rules k) → holdsAt k (rules (p .given)) ≡ false → let a = p .given .args in numberAt k (rules (p .given)) ≡ fillingRefusal (a .bytes) (a .d) (a .addresses)
-unfolding fillingRefusal
-stop {k} p h = sym (refusal-at k (rules (p .given)) (p .rows) h)
-
-entries-fit-requires : tie.Need-entries-fit-requires
-entries-fit-requires c κs =
-    let s = past-1 (c .before .before) .given in
-    (s .pre .0 .nex-high, rw (c .before .new .ensures) (growing (s .args .d) (s .args .d .nex) (s .pre .0) (omega arith)))
-
-position-within-requires : tie.Need-position-within-requires
-position-within-requires c κs =
-    let p = past-4 c in
-    let s = p .given in
-    let nextrec = atLeast-bounds w64 2 (s .args .d .nextrec .0) (p .rows .1 .1 .0) in
-    let nextword = within-bounds w32 1 (s .args .d .reclen) (s .args .d .nextword .0) (omega (arith, s .pre .0 .reclen-high)) (p .rows .1 .1 .1 .0) in
-    (omega (arith, s .pre .0 .reclen-low), s .pre .0 .reclen-high, omega arith, nextword .0, omega (arith, s .pre .0 .reclen-high), omega (arith, s .pre .1 .high))
-
-areas-end-requires : tie.Need-areas-end-requires
-areas-end-requires c κs =
-    let s = past-6 c .given in
-    let r = past-6 c .rows .1 .1 in
-    let free = free-of (s .args .bytes) (s .args .d) (s .pre .0) (s .pre .1 .high) (r .0) (r .1 .0) (r .1 .1 .0) in
-    (s .pre .0, free, omega (arith, leb-true (freeOf (s .args .d)) (s .args .bytes / 4) (r .1 .1 .0), s .pre .1 .high), r .1 .1 .1 .0)
-
 pub filling-refusal-spec : {M : Type 1} → statement M
+unfolding fillingRefusal
 filling-refusal-spec =
     tie.close
     (tie.spec
     (λ c κs. search needs)
-    (λ c. stop (past-none (c .before .before)) (broken (c .before .at-least8 .ensures) (c .if1 .taken)))
+    (λ c. stop {rules = rules} (past-none (c .before .before)) (broken (c .before .at-least8 .ensures) (c .if1 .taken)))
     (λ c κs. search needs)
     (λ c κs. atLeast-bounds w64 1 (past-1 (c .before) .given .args .d .xnext .0) (past-1 (c .before) .rows .0) .0)
-    entries-fit-requires
+    (λ c κs. let s = past-1 (c .before .before) .given in (s .pre .0 .nex-high, rw (c .before .new .ensures) (growing (s .args .d) (s .args .d .nex) (s .pre .0) (omega arith))))
     (λ c. stop (past-1 (c .before .before .before .before)) (broken (fit (c .before)) (c .if2 .taken)))
     (λ c κs. search needs)
     (λ c. stop (past-2 (c .before .before)) (broken (c .before .at-least82 .ensures) (c .if3 .taken)))
     (λ c κs. omega (arith, past-3 c .given .pre .0 .reclen-high))
     (λ c. stop (past-3 (c .before .before)) (broken (c .before .within4 .ensures) (c .if4 .taken)))
-    position-within-requires
+    (λ c κs. let p = past-4 c in omega (arith, p .given .pre, place-low (p .given .args .d) (p .given .args .d .nextrec .0) (p .given .args .d .nextword .0) (p .given .pre .0) (p .rows .1 .1 .0) (p .rows .1 .1 .1 .0)))
     (λ c. stop (past-4 (c .before .before)) (broken (c .before .position-within .ensures) (c .if5 .taken)))
     (λ c κs. past-5 c .given .pre .0)
     (λ c. stop (past-5 (c .before .before)) (broken (c .before .areas-start .ensures) (c .if6 .taken)))
-    areas-end-requires
+    (λ c κs.
+    let s = past-6 c .given in
+    let (_, (_, (nextrec, (nextword, (within, (started, _)))))) = past-6 c .rows in
+    let room = leb-true (freeOf (s .args .d)) (s .args .bytes / 4) within in
+    let free : Free (s .args .d) = omega (arith, place-bounds (s .args .d) (s .args .d .nextrec) (s .args .d .nextword) (s .pre .0) nextrec nextword (omega (arith, s .pre .1 .high))) in
+    (s .pre .0, free, omega (arith, s .pre .1 .high), started))
     (λ c. stop (past-6 (c .before .before)) (broken (c .before .areas-end .ensures) (c .if7 .taken)))
     (λ c. stop (next (past-6 (c .before .before)) (holds (c .before .areas-end .ensures) (c .if7 .left))) refl))

@@ -1,5 +1,5 @@
 -- `entry::inner::enter` meets its contract: the parts of the table are tested in turn. Assumes nothing.
-use Prim.Native.Nat.{ℕ, _+_, _*_, _≤_, _<_}
+use Prim.Native.Nat.{ℕ, _+_, _*_, _≤_}
 use mathlib.Core.Path.{_≡_, refl, sym, ap, _∙_}
 use native.Mathlib.Omega.{arith}
 use borrow.Author.Tests.{le-leb, lt-leb, ne-eqb}
@@ -7,11 +7,9 @@ use lib.ListN.{length}
 use mir.Facts.{toZ-ofZ}
 use Rattle.geometry.specs.Units.{entriesBefore}
 use Rattle.descriptor.specs.Refusal.{refusalIn}
-use Rattle.descriptor.specs.FirstRecord.{freeOf}
-use Rattle.entry.specs.EntryDescriptor.{word4, versionOf, nsecOf, nwordOf, dataOf}
+use Rattle.pieces.specs.EntryDescriptor.{word4, versionOf, dataOf}
 use Rattle.entry.specs.Opening.{slotPositionOf, placeStored, startOf, numberRules, startRefusal, headRefusal, entryRefusal, enteredAt}
-use Rattle.entry.specs.Bounds.{Described}
-use Rattle.entry.proofs.Entering.{Begins, Heads, free-within, slot-inside, start-passed, head-passed, entry-number, refused-start, refused-head, entry-content, entered-numbers, entered-refused}
+use Rattle.entry.proofs.Entering.{Begins, Heads, free-within, slot-lent, start-passed, head-passed, entry-number, refused-start, refused-head, entry-content, entered-numbers, entered-refused}
 use borrow.Author.Needs.{needs, sfits-of}
 use Rattle.entry.proofs.inner.enter.Statement.{statement}
 use Rattle.entry.proofs.inner.enter.Tie as tie
@@ -89,106 +87,54 @@ version : (c : tie.After-i32-at) → let b = begun (headed (passed c)) in c .i32
 unfolding word4
 version c = rw (c .before .byte-offset .ensures, c .before .before .entry-position .ensures, headed (passed c) .before .before .position .ensures) at (c .i32-at .ensures)
 
-returns : tie.Need-returns
-returns c =
-    let a = c .before .before .before .before .args in
-    c .refused .ensures ∙ sym (entered-refused _ _ _ _ 12 (entry-number _ _ _ _ (rw (lt-leb 1 (a .number .0) (c .before .if1 .taken)))) refl)
-
-returns-2 : tie.Need-returns-2
-returns-2 c =
-    let e = c .before .before .before .before in
-    let a = e .before .before .before .args in
-    let past : entriesBefore (a .d .xnext) < a .number .0 = omega (arith, c .before .before .before .entries-before .ensures, c .before .if2 .taken) in
-    c .refused2 .ensures ∙ sym (entered-refused _ _ _ _ 12
-    (entry-number _ _ _ _ (rw (le-leb 1 (a .number .0) (e .if1 .left), lt-leb (a .number .0) (entriesBefore (a .d .xnext)) past))) refl)
-
-place-stored-requires : tie.Need-place-stored-requires
-place-stored-requires c κs =
-    let s = begin (c .before) in
-    let u = in-use (c .before) in
-    let inside = slot-inside (length (s .args .file .now)) (s .args .d) (s .args .addresses) (s .pre) (s .args .number) (u .0) (u .1) in
-    rw (c .slot-position .ensures) (omega (arith, s .pre .settled .lind-low, free-within (length (s .args .file .now)) (s .args .d) (s .args .addresses) (s .pre)))
-
-returns-3 : tie.Need-returns-3
-returns-3 c =
-    let t = c .before .before in
-    c .refused3 .ensures ∙ sym (refused-start _ _ _ _ (numbered (asked (t .before))) (t .before .place-stored .result) (place (t .before)) _
-    (sym (t .start-refusal .ensures)) (ne-eqb (t .start-refusal .result) 0 (c .before .if3 .taken)))
-
-position-requires : tie.Need-position-requires
-position-requires c κs =
-    let b = begins c in
-    let high = given c .pre .settled .reclen-high in
-    (omega (arith, b .record-low), b .record-high, b .word-low, omega (arith, b .word-high, high), high)
-
-head-refusal-requires : tie.Need-head-refusal-requires
-head-refusal-requires c κs =
-    let p = given (c .before) .pre in
-    (p .settled .reclen-high, p .free, rw (c .position .ensures) (begins (c .before) .ends), free-within _ _ _ p)
-
-returns-4 : tie.Need-returns-4
-returns-4 c =
-    let h = c .before .before in
-    let b = h .before .before in
-    c .refused4 .ensures ∙ sym (refused-head _ _ _ _ (numbered (asked (placed b))) (placed b .place-stored .result) (place (placed b)) _
-    (none b) (sym (head h)) (ne-eqb (h .head-refusal .result) 0 (c .before .if4 .taken)))
-
-content-refusal-requires : tie.Need-content-refusal-requires
-content-refusal-requires c κs =
-    let w = c .before .before .before in
-    let h = heads (w .before) in
-    rw (c .before .before .word8-at .ensures, w .word4-at .ensures, w .before .before .before .position .ensures) (h .described, h .nword-small)
-
-returns-5 : tie.Need-returns-5
-returns-5 c =
-    let k = c .before .before in
-    c .refused5 .ensures ∙ sym (entered-refused _ _ _ _ _ (whole k) (ne-eqb (k .content-refusal .result) 0 (c .before .if5 .taken)))
-
--- the version's word lies within the file
-entry-position-requires : tie.Need-entry-position-requires
-entry-position-requires c κs =
-    let h = headed (c .before) in
-    (omega arith, omega (arith, within h, heads h .described .lent))
-
-byte-offset-requires : tie.Need-byte-offset-requires
-byte-offset-requires c κs =
-    let h = headed (c .before .before) in
-    omega (arith, c .entry-position .ensures, within h, heads h .described .lent)
-
-returns-6 : tie.Need-returns-6
-unfolding dataOf
-returns-6 c =
-    let k = c .before .before .before .before in
-    let w = k .before .before .before .before in
-    rw (toZ-ofZ (sfits-of (c .i32-at .ok)), w .word4-at .ensures, k .before .before .before .word8-at .ensures, k .before .before .word8-at2 .ensures, k .before .word8-at3 .ensures, w .before .before .before .position .ensures, version c)
-    (ap (enteredAt _ (given (begun (headed k)) .args .d)) (place (placed (begun (headed k)))) ∙ sym (entered-numbers _ _ _ _ (whole k ∙ c .before .before .before .if5 .left)))
-
 pub enter-spec : {M : Type 1} → statement M
+unfolding dataOf
 enter-spec =
     tie.close
     (tie.spec
     (λ c κs. search needs)
-    returns
+    (λ c. c .refused .ensures ∙ sym (entered-refused _ _ _ _ 12 (entry-number _ _ _ _ (rw (lt-leb 1 _ (c .before .if1 .taken)))) refl))
     (λ c κs. search needs)
     (λ c κs. search needs)
-    returns-2
+    (λ c.
+    let e = c .before .before .before .before in
+    let a = e .before .before .before .args in
+    let past = lt-leb (a .number .0) (entriesBefore (a .d .xnext)) (omega (arith, c .before .before .before .entries-before .ensures, c .before .if2 .taken)) in
+    c .refused2 .ensures ∙ sym (entered-refused _ _ _ _ 12 (entry-number _ _ _ _ (rw (le-leb 1 _ (e .if1 .left), past))) refl))
     (λ c κs. search needs)
-    place-stored-requires
+    (λ c κs.
+    let s = begin (c .before) in
+    let u = in-use (c .before) in
+    omega (arith, c .slot-position .ensures, s .pre .settled .lind-low, slot-lent (length (s .args .file .now)) (s .args .d) (s .args .addresses) (s .pre) (s .args .number) (u .0) (u .1)))
     (λ c κs. search needs)
     (λ c κs. search needs)
-    returns-3
-    position-requires
-    head-refusal-requires
+    (λ c.
+    let t = c .before .before in
+    c .refused3 .ensures ∙ sym (refused-start _ _ _ _ (numbered (asked (t .before))) (t .before .place-stored .result) (place (t .before)) _
+    (sym (t .start-refusal .ensures)) (ne-eqb _ _ (c .before .if3 .taken))))
+    (λ c κs. omega (arith, begins c, given c .pre .settled .reclen-high))
+    (λ c κs. let p = given (c .before) .pre in (p .settled .reclen-high, p .free, rw (c .position .ensures) (begins (c .before) .ends), free-within _ _ _ p))
     (λ c κs. search needs)
-    returns-4
-    (λ c κs. (omega arith, omega (arith, within c)))
-    (λ c κs. (omega arith, omega (arith, within (c .before))))
-    (λ c κs. (omega arith, omega (arith, within (c .before .before))))
-    (λ c κs. (omega arith, omega (arith, within (c .before .before .before))))
-    content-refusal-requires
+    (λ c.
+    let h = c .before .before in
+    let b = h .before .before in
+    c .refused4 .ensures ∙ sym (refused-head _ _ _ _ (numbered (asked (placed b))) (placed b .place-stored .result) (place (placed b)) _
+    (none b) (sym (head h)) (ne-eqb _ _ (c .before .if4 .taken))))
+    (λ c κs. omega (arith, within c))
+    (λ c κs. omega (arith, within (c .before)))
+    (λ c κs. omega (arith, within (c .before .before)))
+    (λ c κs. omega (arith, within (c .before .before .before)))
+    (λ c κs.
+    let w = c .before .before .before in
+    let h = heads (w .before) in
+    rw (c .before .before .word8-at .ensures, w .word4-at .ensures, w .before .before .before .position .ensures) (h .described, h .nword-small))
     (λ c κs. search needs)
-    returns-5
-    entry-position-requires
-    byte-offset-requires
+    (λ c. let k = c .before .before in c .refused5 .ensures ∙ sym (entered-refused _ _ _ _ _ (whole k) (ne-eqb _ _ (c .before .if5 .taken))))
+    (λ c κs. let h = headed (c .before) in omega (arith, within h, heads h .described .lent))
+    (λ c κs. let h = headed (c .before .before) in omega (arith, c .entry-position .ensures, within h, heads h .described .lent))
     (λ c κs. omega (arith, c .byte-offset .ensures, c .before .entry-position .ensures, within (headed (c .before .before .before))))
-    returns-6)
+    (λ c.
+    let k = c .before .before .before .before in
+    let w = k .before .before .before .before in
+    rw (toZ-ofZ (sfits-of (c .i32-at .ok)), w .word4-at .ensures, k .before .before .before .word8-at .ensures, k .before .before .word8-at2 .ensures, k .before .word8-at3 .ensures, w .before .before .before .position .ensures, version c)
+    (ap (enteredAt _ (given (begun (headed k)) .args .d)) (place (placed (begun (headed k)))) ∙ sym (entered-numbers _ _ _ _ (whole k ∙ c .before .before .before .if5 .left)))))

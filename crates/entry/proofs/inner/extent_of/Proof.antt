@@ -5,9 +5,9 @@ use native.Mathlib.Omega.{arith}
 use lib.ListN.{length}
 use Rattle.geometry.specs.declared.units.Place.{Place}
 use Rattle.descriptor.specs.FirstRecord.{freeOf}
-use Rattle.entry.specs.EntryDescriptor.{nwordOf}
+use Rattle.pieces.specs.EntryDescriptor.{nwordOf}
 use Rattle.entry.specs.Opening.{slotPositionOf, placeStored, startOf}
-use Rattle.entry.proofs.Entering.{free-within, slot-inside, Opens, entry-opens, entered-numbers}
+use Rattle.entry.proofs.Entering.{free-within, slot-lent, Opens, entry-opens, entered-numbers}
 use Rattle.entry.proofs.inner.extent_of.Statement.{statement}
 use Rattle.entry.proofs.inner.extent_of.Tie as tie
 
@@ -32,43 +32,16 @@ start c = c .position .ensures ∙ ap (startOf (c .before .before .before .befor
 nword : (c : tie.After-word8-at) → let s = c .before .before .before .before .before in c .word8-at .result ≡ nwordOf (s .args .file .now) (startOf (s .args .d) (here s))
 nword c = c .word8-at .ensures ∙ ap (nwordOf (c .before .before .before .before .before .args .file .now)) (start (c .before))
 
-slot-position-requires : tie.Need-slot-position-requires
-slot-position-requires c κs = let s = c .before in (s .pre .0, known s .number-low, known s .number-high)
-
-place-stored-requires : tie.Need-place-stored-requires
-place-stored-requires c κs =
-    let s = c .before .before in
-    omega (
-      arith,
-      c .slot-position .ensures,
-      s .pre .0 .settled .lind-low,
-      slot-inside (length (s .args .file .now)) (s .args .d) (s .args .addresses) (s .pre .0) (s .args .number) (known s .number-low) (known s .number-high),
-      inside s,
-    )
-
-position-requires : tie.Need-position-requires
-position-requires c κs =
-    let s = c .before .before .before in
-    let o = known s in
-    rw (place c)
-    (omega (arith, o .record-low), o .record-high, o .word-low, omega (arith, o .word-high, s .pre .0 .settled .reclen-high), s .pre .0 .settled .reclen-high)
-
-word8-at-requires : tie.Need-word8-at-requires
-word8-at-requires c κs =
-    let s = c .before .before .before .before in
-    omega (arith, start c, known s .nword-low, known s .ends, inside s)
-
-add-t9 : tie.Need-add-t9
-add-t9 c =
-    let s = c .before .before .before .before .before in
-    omega (arith, start (c .before), nword c, known s .ends, inside s, s .pre .0 .lent .high)
-
-returns : tie.Need-returns
-returns c =
-    let s = c .before .before .before .before .before in
-    rw (start (c .before), nword c, entered-numbers (s .args .file .now) (s .args .d) (s .args .addresses) (s .args .number) (s .pre .1))
-
 pub extent-of-spec : {M : Type 1} → statement M
 extent-of-spec =
     tie.close
-    (tie.spec slot-position-requires place-stored-requires position-requires word8-at-requires add-t9 returns)
+    (tie.spec
+    (λ c κs. let s = c .before in (s .pre .0, known s .number-low, known s .number-high))
+    (λ c κs.
+    let s = c .before .before in
+    let slot = slot-lent (length (s .args .file .now)) (s .args .d) (s .args .addresses) (s .pre .0) (s .args .number) (known s .number-low) (known s .number-high) in
+    omega (arith, c .slot-position .ensures, s .pre .0 .settled .lind-low))
+    (λ c κs. let s = c .before .before .before in rw (place c) (omega (arith, known s, s .pre .0 .settled .reclen-high)))
+    (λ c κs. let s = c .before .before .before .before in omega (arith, start c, known s .nword-low, known s .ends, inside s))
+    (λ c. let s = c .before .before .before .before .before in omega (arith, start (c .before), nword c, known s .ends, inside s, s .pre .0 .lent .high))
+    (λ c. rw (start (c .before), nword c, entered-numbers _ _ _ _ (c .before .before .before .before .before .pre .1))))

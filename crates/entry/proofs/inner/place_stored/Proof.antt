@@ -4,11 +4,8 @@ use borrow.Author.Needs.{needs}
 use Rattle.entry.proofs.inner.place_stored.Statement.{statement}
 use Rattle.entry.proofs.inner.place_stored.Tie as tie
 
-returns : tie.Need-returns
-unfolding placeStored
-returns c = rw (rw (c .before .before .before .byte-offset .ensures) at (c .before .before .u64-at .ensures), rw (c .before .byte-offset2 .ensures) at (c .u32-at .ensures))
-
 pub place-stored-spec : {M : Type 1} → statement M
+unfolding placeStored
 place-stored-spec =
     tie.close
     (tie.spec
@@ -18,4 +15,4 @@ place-stored-spec =
     (λ c κs. search needs)
     (λ c κs. search needs)
     (λ c. search needs)
-    returns)
+    (λ c. rw (rw (c .before .before .before .byte-offset .ensures) at (c .before .before .u64-at .ensures), rw (c .before .byte-offset2 .ensures) at (c .u32-at .ensures))))

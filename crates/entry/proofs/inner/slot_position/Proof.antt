@@ -26,37 +26,23 @@ sum : (c : tie.After-struct-known) → let s = c .before .before .before .before
 unfolding slotPositionOf
 sum c = rw (c .before .position .ensures, c .before .before .aex .ensures, found (c .before .before .before))
 
-slot-of-requires : tie.Need-slot-of-requires
-slot-of-requires c κs =
-    let s = c .before in
-    let d = s .args .d in
-    let a = s .pre .0 in (
-      a .settled .nex-high,
-      rw (c .new .ensures) (growing d (d .nex) (a .settled) (omega arith)),
-      a .settled .lind-high,
-      s .pre .1,
-      rw (c .new .ensures) (omega (arith, s .pre .2, fit-reach (growthIn d) (entriesBefore (d .xnext)) (d .nex) (a .fit))),
-    )
-
-aex-requires : tie.Need-aex-requires
-aex-requires c κs =
-    let s = c .before .before in
-    let u = stands c in
-    (u .held .counted, omega (arith, u .used, s .pre .0 .settled .nex-high))
-
-position-requires : tie.Need-position-requires
-position-requires c κs =
-    let s = c .before .before .before in
-    let u = stands (c .before) in
-    let first = area-first (s .args .bytes) (s .args .d) (s .args .addresses) (s .pre .0) (c .before .slot-of .result .extension .0) (u .held .counted) (u .used) in
-    rw (c .aex .ensures) (omega (arith, first .0), first .1, omega arith, omega arith, s .pre .0 .settled .reclen-high)
-
-add-result : tie.Need-add-result
-add-result c =
-    let s = c .before .before .before .before .before in
-    omega (arith, sum c, slot-inside (s .args .bytes) (s .args .d) (s .args .addresses) (s .pre .0) (s .args .number) (s .pre .1) (s .pre .2), s .pre .0 .room, s .pre .0 .lent .high)
-
 pub slot-position-spec : {M : Type 1} → statement M
 slot-position-spec =
     tie.close
-    (tie.spec (λ c κs. search needs) slot-of-requires aex-requires position-requires add-result (λ c. sum c))
+    (tie.spec
+    (λ c κs. search needs)
+    (λ c κs.
+    let s = c .before in
+    let d = s .args .d in
+    let settled = s .pre .0 .settled in
+    let reach = fit-reach (growthIn d) (entriesBefore (d .xnext)) (d .nex) (s .pre .0 .fit) in
+    rw (c .new .ensures) (settled .nex-high, growing d (d .nex) settled (omega arith), settled .lind-high, s .pre .1, omega (arith, s .pre .2)))
+    (λ c κs. omega (arith, stands c .held .counted, stands c .used, c .before .before .pre .0 .settled .nex-high))
+    (λ c κs.
+    let s = c .before .before .before in
+    let u = stands (c .before) in
+    rw (c .aex .ensures) (omega (arith, area-first (s .args .bytes) (s .args .d) (s .args .addresses) (s .pre .0) _ (u .held .counted) (u .used), s .pre .0 .settled .reclen-high)))
+    (λ c.
+    let s = c .before .before .before .before .before in
+    omega (arith, sum c, slot-inside (s .args .bytes) (s .args .d) (s .args .addresses) (s .pre .0) (s .args .number) (s .pre .1) (s .pre .2), s .pre .0 .room, s .pre .0 .lent .high))
+    (λ c. sum c))

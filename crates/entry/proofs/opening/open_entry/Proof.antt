@@ -9,7 +9,7 @@ use mir.Facts.{toZ-ofZ}
 use Rattle.descriptor.specs.Bounds.{Admitted}
 use Rattle.descriptor.proofs.Answered.{told, refusal-told}
 use Rattle.entry.specs.Answers.{openedAs, openOf}
-use Rattle.entry.proofs.Handing.{known, open-refused, open-numbers}
+use Rattle.entry.proofs.Opened.{known, open-refused, open-numbers}
 use Rattle.entry.proofs.opening.open_entry.Statement.{statement}
 use Rattle.entry.proofs.opening.open_entry.Tie as tie
 
@@ -24,35 +24,8 @@ answer c =
     let k = c .before .before .before in
     open-numbers _ _ (k .before .before .validate .ensures) (k .case .given .1) ∙ ap (openedAs _) (sym (c .enter .ensures))
 
-returns : tie.Need-returns
-returns c =
-    let v = c .before .before .before .before in
-    let a = v .before .before .args in
-    let t = c .before .before .enum-told .given .1 in
-    rw (refusal-told (c .before .refusal-of .ensures) t, c .no-sections .ensures) (sym (open-refused (a .file .now) (a .number) (v .validate .ensures) t))
-
-returns-2 : tie.Need-returns-2
-unfolding openedAs
-returns-2 c =
-    let x = c .before .before .before in
-    rw (c .no-sections2 .ensures, answer x, ne-eqb (x .enter .result .refusal) 0 (c .before .if1 .taken))
-
-section-tables-requires : tie.Need-section-tables-requires
-section-tables-requires c κs =
-    let e = c .before .before .before .before in
-    let x = e .before .before in
-    known _ _ _ _ (x .enter .result) (admitted (x .before)) (x .enter .ensures) (e .if1 .left) .described
-
-returns-3 : tie.Need-returns-3
-unfolding openedAs
-returns-3 c =
-    let s = c .before .before .signed64 in
-    let e = c .before .before .before .before .before in
-    let x = e .before .before in
-    let version : toZ w32 (ofZ w32 (x .enter .result .version)) ≡ x .enter .result .version = toZ-ofZ (sfits-of (c .before .struct-told .given .1 .1 .1 .0 .1)) in
-    rw (c .section-tables .ensures, version, toZ-ofZ (sfits-of (s .ok)), s .ensures, answer x, eq-eqb (x .enter .result .refusal) 0 (e .if1 .left))
-
 pub open-entry-spec : {M : Type 1} → statement M
+unfolding openedAs
 open-entry-spec =
     tie.close
     (tie.spec
@@ -61,10 +34,21 @@ open-entry-spec =
     (λ c. search needs)
     (λ c κs. search needs)
     (λ c κs. search needs)
-    returns
+    (λ c.
+    let v = c .before .before .before .before in
+    let t = c .before .before .enum-told .given .1 in
+    rw (refusal-told (c .before .refusal-of .ensures) t, c .no-sections .ensures) (sym (open-refused _ _ (v .validate .ensures) t)))
     (λ c κs. admitted c)
     (λ c κs. search needs)
-    returns-2
+    (λ c. let x = c .before .before .before in rw (c .no-sections2 .ensures, answer x, ne-eqb (x .enter .result .refusal) 0 (c .before .if1 .taken)))
     (λ c κs. search needs)
-    section-tables-requires
-    returns-3)
+    (λ c κs.
+    let e = c .before .before .before .before in
+    let x = e .before .before in
+    known _ _ _ _ (x .enter .result) (admitted (x .before)) (x .enter .ensures) (e .if1 .left) .described)
+    (λ c.
+    let s = c .before .before .signed64 in
+    let e = c .before .before .before .before .before in
+    let x = e .before .before in
+    let version : toZ w32 (ofZ w32 (x .enter .result .version)) ≡ x .enter .result .version = toZ-ofZ (sfits-of (c .before .struct-told .given .1 .1 .1 .0 .1)) in
+    rw (c .section-tables .ensures, version, toZ-ofZ (sfits-of (s .ok)), s .ensures, answer x, eq-eqb (x .enter .result .refusal) 0 (e .if1 .left))))

@@ -1,13 +1,11 @@
 -- `entry::rules::content_refusal` meets its contract: each test is a row of the table, passed one after the other. Assumes nothing.
-use Prim.Native.Nat.{ℕ}
-use mathlib.Core.Path.{_≡_, refl, sym}
-use mathlib.Core.Bool.{false}
+use mathlib.Core.Path.{refl}
 use mathlib.Core.List.{List}
 use mir.Syntax.{w64}
 use Rattle.words.proofs.Ranges.{atLeast-bounds}
 use Rattle.descriptor.specs.Refusal.{Rule}
 use Rattle.descriptor.proofs.Tests.{holds, broken}
-use Rattle.descriptor.proofs.Refusals.{Past, past-none, next, holdsAt, numberAt, refusal-at}
+use Rattle.descriptor.proofs.Refusals.{Past, past-none, next, stop}
 use Rattle.entry.specs.Opening.{contentRules, contentRefusal}
 use borrow.Author.Needs.{needs}
 use Rattle.entry.proofs.rules.content_refusal.Statement.{statement}
@@ -29,34 +27,19 @@ past-3 c = next (past-2 (c .before .before)) (holds (c .before .sections-within 
 abbrev past-4 : tie.Else4 → Past rules 4
 past-4 c = next (past-3 (c .before .before)) (holds (c .before .sections-apart .ensures) (c .if4 .left))
 
--- a test that fails gives the refusal of its row, and 0 is given where none fails
-stop : {k : ℕ} (p : Past rules k) → holdsAt k (rules (p .given)) ≡ false
-    → let a = p .given .args in numberAt k (rules (p .given)) ≡ contentRefusal (a .file .now) (a .start) (a .nsec) (a .nword) (a .array)
-unfolding contentRefusal
-stop {k} p h = sym (refusal-at k (rules (p .given)) (p .rows) h)
-
-data-within-requires : tie.Need-data-within-requires
-data-within-requires c κs =
-    let s = past-1 c .given in
-    (s .pre .0 .sections, s .pre .1, atLeast-bounds w64 0 (s .args .array .words) (past-1 c .rows .0) .1)
-
-data-apart-requires : tie.Need-data-apart-requires
-data-apart-requires c κs =
-    let p = past-4 c in
-    (p .given .pre .0, p .given .pre .1, p .rows .1 .1 .0, p .rows .1 .0)
-
 pub content-refusal-spec : {M : Type 1} → statement M
+unfolding contentRefusal
 content-refusal-spec =
     tie.close
     (tie.spec
     (λ c κs. search needs)
-    (λ c. stop (past-none (c .before .before .before)) (broken (c .before .at-least8 .ensures) (c .if1 .taken)))
-    data-within-requires
+    (λ c. stop {rules = rules} (past-none (c .before .before .before)) (broken (c .before .at-least8 .ensures) (c .if1 .taken)))
+    (λ c κs. let p = past-1 c in (p .given .pre .0 .sections, p .given .pre .1, atLeast-bounds w64 0 (p .given .args .array .words) (p .rows .0) .1))
     (λ c. stop (past-1 (c .before .before)) (broken (c .before .data-within .ensures) (c .if2 .taken)))
     (λ c κs. search needs)
     (λ c. stop (past-2 (c .before .before)) (broken (c .before .sections-within .ensures) (c .if3 .taken)))
     (λ c κs. (past-3 c .given .pre .0, past-3 c .given .pre .1, past-3 c .rows .1 .1 .0))
     (λ c. stop (past-3 (c .before .before)) (broken (c .before .sections-apart .ensures) (c .if4 .taken)))
-    data-apart-requires
+    (λ c κs. let p = past-4 c in (p .given .pre .0, p .given .pre .1, p .rows .1 .1 .0, p .rows .1 .0))
     (λ c. stop (past-4 (c .before .before)) (broken (c .before .data-apart .ensures) (c .if5 .taken)))
     (λ c. stop (next (past-4 (c .before .before)) (holds (c .before .data-apart .ensures) (c .if5 .left))) refl))

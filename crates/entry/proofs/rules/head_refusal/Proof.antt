@@ -1,6 +1,6 @@
 -- `entry::rules::head_refusal` meets its contract: each test is a row of the table, passed one after the other. Assumes nothing.
-use Prim.Native.Nat.{ℕ, _+_}
-use mathlib.Core.Path.{_≡_, refl, sym}
+use Prim.Native.Nat.{_+_}
+use mathlib.Core.Path.{_≡_, refl}
 use mathlib.Core.Bool.{Bool, true, false}
 use mathlib.Core.List.{List}
 use native.Mathlib.Omega.{arith}
@@ -14,9 +14,9 @@ use Rattle.words.proofs.Ranges.{within-bounds, atLeast-bounds}
 use Rattle.descriptor.specs.Refusal.{Rule}
 use Rattle.descriptor.specs.FirstRecord.{freeOf}
 use Rattle.descriptor.proofs.Tests.{holds, broken}
-use Rattle.descriptor.proofs.Refusals.{Past, past-none, next, holdsAt, numberAt, refusal-at}
+use Rattle.descriptor.proofs.Refusals.{Past, past-none, next, stop}
 use Rattle.layout.specs.EntryWords.{entryCode, descriptorWords}
-use Rattle.entry.specs.EntryDescriptor.{entryCodeOf, nsecOf, nwordOf, xnumOf}
+use Rattle.pieces.specs.EntryDescriptor.{entryCodeOf, nsecOf, nwordOf, xnumOf}
 use Rattle.entry.specs.Opening.{headRules, headRefusal}
 use borrow.Author.Needs.{needs}
 use Rattle.entry.proofs.rules.head_refusal.Statement.{statement}
@@ -58,23 +58,8 @@ past-4 c = next (past-3 (c .before .before)) (ends (c .before) true (le-leb _ _ 
 same : (c : tie.After-struct-known) (b : Bool) → let p = past-4 (c .before .before) .given .args in eqb (c .before .word8-at2 .result) (p .number .0) ≡ b → eqb (xnumOf (p .file .now) (p .start)) (p .number .0) ≡ b
 same c b t = rw (c .before .word8-at2 .ensures) at t
 
--- a test that fails gives the refusal of its row, and 0 is given where none fails
-stop : {k : ℕ} (p : Past rules k) → holdsAt k (rules (p .given)) ≡ false → let a = p .given .args in numberAt k (rules (p .given)) ≡ headRefusal (a .file .now) (a .d) (a .start) (a .number)
-unfolding headRefusal
-stop {k} p h = sym (refusal-at k (rules (p .given)) (p .rows) h)
-
-descriptor-words-requires : tie.Need-descriptor-words-requires
-descriptor-words-requires c κs =
-    let p = past-2 (c .before) in
-    let a = p .given .args in
-    rw (c .before .before .before .word4-at .ensures) (within-bounds w32 0 64 (nsecOf (a .file .now) (a .start)) (omega arith) (p .rows .1 .0) .1)
-
-add-if4 : tie.Need-add-if4
-add-if4 c =
-    let s = past-3 (c .before) .given in
-    omega (arith, c .before .before .before .before .word8-at .ensures, atLeast-bounds w64 (descriptorWords (nsecOf (s .args .file .now) (s .args .start))) (nwordOf (s .args .file .now) (s .args .start)) (past-3 (c .before) .rows .1 .1 .0), s .pre .2, s .pre .3)
-
 pub head-refusal-spec : {M : Type 1} → statement M
+unfolding headRefusal
 head-refusal-spec =
     tie.close
     (tie.spec
@@ -85,16 +70,20 @@ head-refusal-spec =
     (λ c. search needs)
     (λ c. search needs)
     (λ c κs. search needs)
-    (λ c. stop (past-none (c .before .before .before .before .before)) (broken (code (c .before)) (c .if1 .taken)))
+    (λ c. stop {rules = rules} (past-none (c .before .before .before .before .before)) (broken (code (c .before)) (c .if1 .taken)))
     (λ c κs. search needs)
     (λ c κs. search needs)
     (λ c. stop (past-1 (c .before .before .before)) (broken (few (c .before)) (c .if2 .taken)))
     (λ c κs. search needs)
-    descriptor-words-requires
+    (λ c κs. let p = past-2 (c .before) in rw (c .before .before .before .word4-at .ensures) (within-bounds w32 0 64 _ (omega arith) (p .rows .1 .0) .1))
     (λ c κs. search needs)
     (λ c. stop (past-2 (c .before .before .before .before)) (broken (long (c .before)) (c .if3 .taken)))
     (λ c κs. search needs)
-    add-if4
+    (λ c.
+    let p = past-3 (c .before) in
+    let a = p .given .args in
+    let nword = atLeast-bounds w64 (descriptorWords (nsecOf (a .file .now) (a .start))) (nwordOf (a .file .now) (a .start)) (p .rows .1 .1 .0) in
+    omega (arith, c .before .before .before .before .word8-at .ensures, p .given .pre .2, p .given .pre .3))
     (λ c. stop (past-3 (c .before .before)) (ends (c .before) false (lt-leb _ _ (c .if4 .taken))))
     (λ c κs. search needs)
     (λ c. stop (past-4 (c .before .before .before)) (same (c .before) false (ne-eqb _ _ (c .if5 .taken))))

@@ -1,12 +1,11 @@
 -- `geometry::area::slot_of` meets its contract. The loop's invariant: `extension` is in use, `capacity` is its own, and `before` is the total of those before it, which does not reach the entry. Assumes nothing.
 use mathlib.Core.Path.{_≡_, refl, sym, ap, _∙_}
-use Prim.Native.Nat.{ℕ, zero, suc, _-_, _+_, _*_, _≤_, _<_}
+use Prim.Native.Nat.{ℕ, _-_, _+_, _*_, _≤_, _<_}
 use native.Mathlib.Omega.{arith}
 use native.Mathlib.Nat.{mul-le-mul}
-use Rattle.geometry.specs.declared.growth.Growth.{Growth}
-use Rattle.geometry.specs.Growth.{grownOf, capacityOf, totalOf}
+use Rattle.geometry.specs.Growth.{capacityOf, totalOf}
 use Rattle.geometry.specs.Area.{slotAt, slotOf}
-use Rattle.geometry.proofs.Steps.{capacity-step}
+use Rattle.geometry.proofs.Steps.{grown-next}
 use Rattle.geometry.proofs.Capacities.{total-none, total-last, total-before, capacity-limit, total-limit}
 use Rattle.geometry.proofs.Slots.{Holds, holder-only, extension-holds}
 use Rattle.geometry.proofs.area.slot_of.Statement.{statement}
@@ -17,11 +16,6 @@ Inv-loop growth nex lind number extension₀ before₀ capacity₀ extension bef
 
 abbrev μ-loop : tie.MeasureT-loop
 μ-loop growth nex lind number extension₀ before₀ capacity₀ extension before capacity = nex - extension
-
--- an entry within the total has an extension in use
-in-use : (g : Growth) (n e : ℕ) → 1 ≤ e → e ≤ totalOf g n → 1 ≤ n
-in-use g zero e h l = absurd (omega (arith, total-none g))
-in-use g (suc n) e h l = omega arith
 
 -- the numbers are small
 room : (c : tie.At-loop Inv-loop μ-loop) → (c .loop .capacity ≤ 16384) × (c .loop .before ≤ 16 * 16384)
@@ -42,29 +36,16 @@ further c =
     let s = c .before .before in
     omega (arith, total-before (s .args .growth) (c .before .loop .extension) (s .args .nex) (omega (arith, reach (c .before), s .pre .4)))
 
-loop-holds : tie.Need-loop-holds Inv-loop μ-loop
-unfolding capacityOf
-loop-holds c =
-    let some = in-use (c .args .growth) (c .args .nex) (c .args .entry .0) (c .pre .3) (c .pre .4) in
-    (omega arith, some, refl, sym (total-none _), omega arith)
-
 loop-again : tie.Need-loop-again Inv-loop μ-loop
 loop-again c =
-    let g = c .before .before .before .args .growth in
     let l = c .before .before .loop in
     let k : l .extension + 1 - 1 ≡ l .extension = omega arith in (
       omega arith,
       further (c .before),
-      c .grown .ensures ∙ ap (grownOf g) (l .inv .2) ∙ sym (capacity-step g (l .extension) (l .inv .0)),
+      grown-next _ (l .extension) (l .inv .0) (l .inv .2) (c .grown .ensures),
       rw k (reach (c .before .before)),
       c .before .loop-test .taken,
     )
-
-mul-t14 : tie.Need-mul-t14 Inv-loop μ-loop
-mul-t14 c =
-    let s = c .before .before in
-    let low : s .args .entry .0 - c .before .loop .before - 1 ≤ 16384 = omega (arith, room (c .before)) in
-    omega (arith, mul-le-mul low (s .pre .2))
 
 returns : tie.Need-returns Inv-loop μ-loop
 unfolding slotOf
@@ -79,19 +60,23 @@ returns c =
     ∙ ap (λ (k : ℕ). slotAt k (n - totalOf (s .args .growth) (k - 1)) (s .args .lind)) (holder-only (s .args .growth) n _ _ here (there .0))
 
 pub slot-of-spec : {M : Type 1} → statement M
+unfolding capacityOf
 slot-of-spec =
     tie.close
     (tie.spec
     Inv-loop
     μ-loop
-    loop-holds
+    (λ c.
+    let none = total-none (c .args .growth) in
+    (omega arith, total-before (c .args .growth) 0 (c .args .nex) (omega arith), refl, sym none, omega arith))
     (λ c. omega (arith, room c))
     (λ c. omega (arith, room (c .before)))
     (λ c κs. (c .before .before .pre .1 .gex-high, room (c .before) .0))
     (λ c. omega arith)
     (λ c. omega (arith, further (c .before)))
     loop-again
-    (λ c. omega arith)
-    (λ c. omega arith)
-    mul-t14
+    (λ c. omega arith) (λ c. omega arith)
+    (λ c.
+    let low : c .before .before .args .entry .0 - c .before .loop .before - 1 ≤ 16384 = omega (arith, room (c .before)) in
+    omega (arith, mul-le-mul low (c .before .before .pre .2)))
     returns)

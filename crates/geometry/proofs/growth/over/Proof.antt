@@ -5,8 +5,8 @@ use Prim.Native.Nat.{_-_, _+_, _≤_}
 use native.Mathlib.Omega.{arith}
 use borrow.Author.Tests.{lt-ltb, le-ltb}
 use lib.Dec.{ltb}
-use Rattle.geometry.specs.Growth.{grownOf, capacityOf, overOf}
-use Rattle.geometry.proofs.Steps.{capacity-step}
+use Rattle.geometry.specs.Growth.{capacityOf, overOf}
+use Rattle.geometry.proofs.Steps.{grown-next}
 use Rattle.geometry.proofs.Capacities.{over-next, over-more}
 use Rattle.geometry.proofs.growth.over.Statement.{statement}
 use Rattle.geometry.proofs.growth.over.Tie as tie
@@ -17,41 +17,21 @@ Inv-loop growth count passed₀ next₀ passed next = (passed ≤ count) × (nex
 abbrev μ-loop : tie.MeasureT-loop
 μ-loop growth count passed₀ next₀ passed next = count - passed
 
-loop-holds : tie.Need-loop-holds Inv-loop μ-loop
-unfolding capacityOf overOf
-loop-holds c = (omega arith, refl, refl)
-
-returns : tie.Need-returns Inv-loop μ-loop
-returns c =
-    let a = c .before .before .before .args in
-    let l = c .before .before .loop in
-    sym (over-more (a .growth) (l .passed + 1) (a .count) (omega arith)
-    (over-next (a .growth) (l .passed) (l .inv .2) ∙ ap (ltb 16384) (sym (l .inv .1)) ∙ lt-ltb 16384 (l .next) (c .if1 .taken)))
-
-loop-again : tie.Need-loop-again Inv-loop μ-loop
-loop-again c =
-    let g = c .before .before .before .before .args .growth in
-    let l = c .before .before .before .loop in (
-      omega arith,
-      c .grown .ensures ∙ ap (grownOf g) (l .inv .1) ∙ sym (capacity-step g (l .passed + 1) (omega arith)),
-      over-next g (l .passed) (l .inv .2) ∙ ap (ltb 16384) (sym (l .inv .1)) ∙ le-ltb 16384 (l .next) (c .before .if1 .left),
-    )
-
-returns-2 : tie.Need-returns-2 Inv-loop μ-loop
-returns-2 c =
-    let e : c .before .loop .passed ≡ c .before .before .args .count = omega arith in
-    sym (rw e at (c .before .loop .inv .2))
+-- with those passed within the limit, one more is over it by its own capacity
+own : (c : tie.In-loop Inv-loop μ-loop) → overOf (c .before .before .args .growth) (c .before .loop .passed + 1) ≡ ltb 16384 (c .before .loop .next)
+own c = let l = c .before .loop in over-next _ (l .passed) (l .inv .2) ∙ ap (ltb 16384) (sym (l .inv .1))
 
 pub over-spec : {M : Type 1} → statement M
+unfolding capacityOf overOf
 over-spec =
     tie.close
     (tie.spec
     Inv-loop
     μ-loop
-    loop-holds
-    returns
-    (λ c κs. omega arith)
-    (λ c. omega arith)
-    (λ c. omega arith)
-    loop-again
-    returns-2)
+    (λ c. (omega arith, refl, refl))
+    (λ c. sym (over-more _ (c .before .before .loop .passed + 1) (c .before .before .before .args .count) (omega arith) (own (c .before) ∙ lt-ltb _ _ (c .if1 .taken))))
+    (λ c κs. omega arith) (λ c. omega arith) (λ c. omega arith)
+    (λ c.
+    let l = c .before .before .before .loop in
+    (omega arith, grown-next _ (l .passed + 1) (omega arith) (l .inv .1) (c .grown .ensures), own (c .before .before) ∙ le-ltb _ _ (c .before .if1 .left)))
+    (λ c. let e : c .before .loop .passed ≡ c .before .before .args .count = omega arith in sym (rw e at (c .before .loop .inv .2))))

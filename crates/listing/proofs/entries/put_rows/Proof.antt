@@ -1,67 +1,61 @@
 -- `listing::entries::put_rows` meets its contract.
 -- The loop's invariant: with the rows that are left written from `next` on, the buffer holds all rows. Assumes nothing.
-use Prim.Native.Nat.{_+_, _-_, _≤_}
-use mathlib.Core.Path.{_≡_, refl, _∙_}
+use Prim.Native.Nat.{ℕ, _+_, _-_, _≤_}
+use mathlib.Core.List.{List}
+use mathlib.Core.Path.{_≡_, refl}
 use native.Mathlib.Omega.{arith}
 use denote.Ref.{now}
 use lib.ListN.{length}
-use Rattle.image.specs.Image.{splice}
-use Rattle.image.proofs.Splice.{splice-nil}
-use Rattle.listing.proofs.Lines.{rest, rest-none, length-next, laid-next}
+use Rattle.listing.specs.Listing.{rowsFrom}
+use Rattle.listing.proofs.Lines.{rest, rest-next, length-next}
+use Rattle.listing.proofs.Laid.{Laid, laid-none, laid-on}
 use Rattle.listing.proofs.entries.put_rows.Statement.{statement}
 use Rattle.listing.proofs.entries.put_rows.Tie as tie
 
 abbrev Inv-loop : tie.InvT-loop
 Inv-loop file d addresses out₀ at entries next₀ written₀ out next written =
     (written ≤ entries) × (length out ≡ length out₀)
-    × (next + length (rest file d addresses (written + 1) (entries - written)) ≡ at + length (rest file d addresses 1 entries))
-    × (splice out next (rest file d addresses (written + 1) (entries - written)) ≡ splice out₀ at (rest file d addresses 1 entries))
+    × ((behind : ℕ) (after : List ℕ) → Laid out next (rest file d addresses (written + 1) (entries - written)) behind after
+    → Laid out₀ at (rest file d addresses 1 entries) behind after)
 
 abbrev μ-loop : tie.MeasureT-loop
 μ-loop file d addresses out₀ at entries next₀ written₀ out next written = entries - written
 
-loop-holds : tie.Need-loop-holds Inv-loop μ-loop
-loop-holds c = let q : c .entries-before .result - 0 ≡ c .entries-before .result = omega arith in (omega arith, refl, rw q, rw q)
+-- the offset of the next row and the length of the rows that are left make up the length of all
+left : (c : tie.At-loop Inv-loop μ-loop) → let a = c .before .before .before .before .args in
+    c .loop .next + length (rest (a .file .now) (a .d) (a .addresses) (c .loop .written + 1) (c .before .entries-before .result - c .loop .written))
+    ≡ a .at + length (rest (a .file .now) (a .d) (a .addresses) 1 (c .before .entries-before .result))
+left c = c .loop .inv .2 _ _ (refl, refl) .0
 
 put-row-requires : tie.Need-put-row-requires Inv-loop μ-loop
 put-row-requires c κs =
-    let b = c .before .before .before .before in
-    let s = b .before .before .before in
-    let l = c .before .before .before .loop in
-    let all = b .entries-before in
+    let l = c .before .before .before in
+    let a = l .before .before .before .before .args in
+    let n = l .before .entries-before in
     let x = c .before .enter in
-    let a = s .args in
-    let next = length-next (a .file .now) (a .d) (a .addresses) (l .written + 1) (all .result - l .written) (x .result) (omega arith)
-    (x .ensures) in
-    omega (arith, next, l .inv .1, l .inv .2, rw (← (all .ensures)) at (s .pre .1))
+    omega (
+      arith,
+      length-next (a .file .now) (a .d) (a .addresses) (l .loop .written) (n .result) (x .result) (omega arith) (x .ensures),
+      l .loop .inv .1,
+      left l,
+      rw (← (n .ensures)) at (l .before .before .before .before .pre .1),
+    )
 
 loop-again : tie.Need-loop-again Inv-loop μ-loop
 loop-again c =
     let e = c .before .before .before .before in
-    let b = e .before .before .before in
-    let s = b .before .before .before .args in
-    let l = e .before .before .loop in
-    let all = b .entries-before .result in
-    let x = e .enter in
+    let l = e .before .before in
     let row = c .before .before .put-row in
-    let q : all - (l .written + 1) ≡ all - l .written - 1 = omega arith in
-    let next = length-next (s .file .now) (s .d) (s .addresses) (l .written + 1) (all - l .written) (x .result) (omega arith)
-    (x .ensures) in (
-      omega arith,
-      omega arith,
-      rw q (omega (arith, next, l .inv .2, row .ensures .0)),
-      rw q (laid-next (s .file .now) (s .d) (s .addresses) (l .written + 1) (all - l .written) (x .result) (l .out) (l .next) (row .last .0)
-          (row .result) (omega arith) (x .ensures) (row .ensures .1) (row .ensures .0) ∙ l .inv .3),
-    )
+    (omega arith, omega arith, λ b o w. l .loop .inv .2 b o (rw (rest-next _ _ _ (l .loop .written) (l .before .entries-before .result) (e .enter .result) (omega arith) (e .enter .ensures)) (laid-on _ _ _ _ (row .ensures) w)))
 
 returns : tie.Need-returns Inv-loop μ-loop
+unfolding rowsFrom
 returns c =
-    let s = c .before .before .before .before .before .args in
     let l = c .before .loop in
-    let all = c .before .before .entries-before in
-    let q : all .result - l .written ≡ 0 = omega arith in
-    let end = rw (q, rest-none (s .file .now) (s .d) (s .addresses) (l .written + 1), splice-nil) at (l .inv .3) in
-    rw (← (all .ensures)) end
+    let n = c .before .before .entries-before in
+    let q : n .result - l .written ≡ 0 = omega arith in
+    let all = rw q at (l .inv .2) in
+    rw (← (n .ensures)) (all (l .next) (l .out) (laid-none (l .out) (l .next)) .1)
 
 pub put-rows-spec : {M : Type 1} → statement M
 put-rows-spec =
@@ -70,12 +64,11 @@ put-rows-spec =
     Inv-loop
     μ-loop
     (λ c κs. c .before .before .pre .0 .counted)
-    loop-holds
+    (λ c. let q : c .entries-before .result - 0 ≡ c .entries-before .result = omega arith in (omega arith, refl, rw q (λ b o w. w)))
     (λ c. omega arith)
     (λ c κs. c .before .before .before .before .before .pre .0)
     put-row-requires
-    (λ c. omega arith)
-    (λ c. omega arith)
+    (λ c. omega arith) (λ c. omega arith)
     loop-again
     (λ c. omega arith)
     returns)

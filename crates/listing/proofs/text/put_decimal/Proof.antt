@@ -23,9 +23,7 @@ pub put-decimal-spec : {M : Type 1} → statement M
 put-decimal-spec =
     tie.close
     (tie.spec
-    (λ c κs. search needs)
-    (λ c. search needs)
-    (λ c. search needs)
+    (λ c κs. search needs) (λ c. search needs) (λ c. search needs)
     (λ c κs. omega (arith, ap length (shown (c .before .before))))
     (λ c. omega (arith, ap length (shown (c .before .before .before .before .before))))
     (λ c. search needs)

@@ -1,14 +1,12 @@
 -- `listing::text::put_field` meets its contract: the digits, and the byte behind them. Assumes nothing.
 use Prim.Native.Nat.{_+_}
-use mathlib.Core.Path.{_≡_, _∙_}
-use mathlib.Core.List.{[], _∷_}
+use mathlib.Core.Path.{_≡_, refl}
 use native.Mathlib.Omega.{arith}
 use borrow.Author.Needs.{needs}
-use denote.Ref.{now}
 use lib.ListN.{length}
-use Rattle.image.proofs.Splice.{splice-adjacent}
 use Rattle.listing.specs.Text.{decimalOf, fieldOf}
 use Rattle.listing.proofs.Decimal.{length-field}
+use Rattle.listing.proofs.Laid.{laid-on}
 use Rattle.listing.proofs.text.put_field.Statement.{statement}
 use Rattle.listing.proofs.text.put_field.Tie as tie
 
@@ -20,13 +18,7 @@ returns : tie.Need-returns
 unfolding fieldOf
 returns c =
     let p = c .before .before in
-    let d = p .before .before .before .before .before in
-    let a = d .before .before .before .args in
-    let digits = d .put-decimal in (
-      omega (arith, whole d),
-      (rw (digits .ensures .1) at (p .put .ensures))
-          ∙ splice-adjacent (now (a .out)) (a .at) (decimalOf (a .n)) (digits .result) (a .end ∷ []) (digits .ensures .0),
-    )
+    laid-on _ _ _ _ (p .before .before .before .before .before .put-decimal .ensures) (refl, p .put .ensures)
 
 pub put-field-spec : {M : Type 1} → statement M
 put-field-spec =

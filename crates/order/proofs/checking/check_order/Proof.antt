@@ -8,9 +8,6 @@ use borrow.Author.Needs.{needs}
 use Rattle.order.proofs.checking.check_order.Statement.{statement}
 use Rattle.order.proofs.checking.check_order.Tie as tie
 
-enum-told : tie.Need-enum-told
-enum-told c = search needs
-
 returns : tie.Need-returns
 unfolding checkedIn
 returns c =
@@ -20,14 +17,14 @@ returns c =
 
 check-entries-requires : tie.Need-check-entries-requires
 check-entries-requires c κs =
-    let v = c .before .before .before .before .validate in
-    told (c .before .before .before .before .before .before .args .file .now) (v .result) (c .before .before .case .given .0 .0) (v .ensures) (c .before .before .case .given .1) .admitted
+    let v = c .before .before .before .before in
+    told (v .before .before .args .file .now) (v .validate .result) (c .before .before .case .given .0 .0) (v .validate .ensures) (c .before .before .case .given .1) .admitted
 
 returns-2 : tie.Need-returns-2
 unfolding checkedIn
 returns-2 c =
-    let v = c .before .before .before .before .before .validate in
-    c .check-entries .ensures ∙ sym (check-by (c .before .before .before .before .before .before .before .args .file .now) (v .result) _ (v .ensures) (c .before .before .before .case .given .1))
+    let v = c .before .before .before .before .before in
+    c .check-entries .ensures ∙ sym (check-by (v .before .before .args .file .now) (v .validate .result) _ (v .validate .ensures) (c .before .before .before .case .given .1))
 
 pub check-order-spec : {M : Type 1} → statement M
 check-order-spec =
@@ -35,7 +32,7 @@ check-order-spec =
     (tie.spec
     (λ c κs. search needs)
     (λ c. search needs)
-    enum-told
+    (λ c. search needs)
     (λ c κs. search needs)
     returns
     check-entries-requires

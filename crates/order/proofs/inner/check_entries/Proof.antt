@@ -1,141 +1,101 @@
--- `order::inner::check_entries` meets its contract. The loop's invariant: the check of all is the check from the next entry on, and `before` is where the last one passed ends. Assumes nothing.
-use Prim.Native.Nat.{ℕ, _+_, _-_, _≤_}
-use mathlib.Core.Path.{_≡_, refl, sym, ap, _∙_}
-use mathlib.Core.Bool.{false}
-use lib.Dec.{eqb}
+-- `order::inner::check_entries` meets its contract. The loop's invariant is what the check knows behind the entries that it passed. Assumes nothing.
+use Prim.Native.Nat.{_+_, _-_, _≤_}
+use mathlib.Core.Path.{_≡_}
 use lib.ListN.{length}
 use native.Mathlib.Omega.{arith}
 use borrow.Author.Needs.{needs}
 use borrow.Author.Tests.{ne-eqb}
+use Rattle.geometry.specs.declared.units.EntryNumber.{EntryNumber}
 use Rattle.geometry.specs.Units.{entriesBefore}
+use Rattle.geometry.specs.Area.{slotOf}
 use Rattle.descriptor.specs.FirstRecord.{growthIn}
-use Rattle.descriptor.proofs.Tests.{holds, broken}
+use Rattle.descriptor.specs.Bounds.{Admitted}
 use Rattle.descriptor.proofs.Fitting.{fit-reach}
 use Rattle.descriptor.proofs.AreaOrder.{growing}
-use Rattle.entry.specs.declared.entered.Entered.{Entered}
 use Rattle.entry.proofs.Entering.{slot-in-use}
-use Rattle.entry.proofs.Handing.{Known, known}
-use Rattle.entry.specs.Opening.{endOf}
-use Rattle.order.specs.Order.{checkedFrom, checkedAll, startsInOrder, endsInOrder, orderRefusal}
-use Rattle.order.proofs.Checks.{entryAt, end-none, order-opening, order-start, order-end, order-pass, scan-none, scan-pass, scan-fail, slotAfter}
+use Rattle.entry.proofs.Opened.{Known, known}
+use Rattle.order.proofs.Checks.{Passing, passing-none, passing-all, fails-opening, fails-start, fails-end, passes}
 use Rattle.order.proofs.inner.check_entries.Statement.{statement}
 use Rattle.order.proofs.inner.check_entries.Tie as tie
 
 abbrev Inv-loop : tie.InvT-loop
-Inv-loop file d addresses bytes growth entries passed₀ before₀ passed before = (passed ≤ entries) × (before ≡ endOf (entryAt file d addresses passed)) × (checkedFrom file d addresses 1 entries ≡ checkedFrom file d addresses (passed + 1) (entries - passed))
+Inv-loop file d addresses bytes growth entries passed₀ before₀ passed before = Passing file d addresses entries passed before
 
 abbrev μ-loop : tie.MeasureT-loop
 μ-loop file d addresses bytes growth entries passed₀ before₀ passed before = entries - passed
 
--- what a turn knows: how many entries there are, the entry that it opened, its slot, and its tests
-abbrev begin : tie.In-loop Inv-loop μ-loop → tie.Start Inv-loop μ-loop
-begin c = c .before .before .before .before .before
+-- the places of a turn, each made of the one that follows: its begin, behind its open, its slot, and its two tests
+abbrev begin : tie.At-loop Inv-loop μ-loop → tie.Start Inv-loop μ-loop
+begin c = c .before .before .before .before
 
-fail : (c : tie.In-loop Inv-loop μ-loop) (n : ℕ) → let s = begin c in let k = c .before .loop .passed in
-    orderRefusal (s .args .file .now) (s .args .d) (s .args .addresses) (record { 0 = k + 1 }) ≡ n → eqb n 0 ≡ false → record { entry = record { 0 = k + 1 }; refusal = n } ≡ checkedAll (s .args .file .now) (s .args .d) (s .args .addresses)
-fail c n e o =
-    let s = begin c in
-    let l = c .before .loop in
-    let all = c .before .before .entries-before in
-    sym (ap (checkedFrom (s .args .file .now) (s .args .d) (s .args .addresses) 1) (sym (all .ensures)) ∙ l .inv .2 ∙ scan-fail (s .args .file .now) (s .args .d) (s .args .addresses) (l .passed + 1) (all .result - l .passed) n (omega arith) e o)
+abbrev turn : tie.Else1 Inv-loop μ-loop → tie.At-loop Inv-loop μ-loop
+turn c = c .before .before .before .before
 
-shown : (c : tie.Else1 Inv-loop μ-loop) → let s = begin (c .before .before .before) in Known (s .args .file .now) (s .args .d) (record { 0 = c .before .before .before .before .loop .passed + 1 }) (c .before .before .enter .result)
+abbrev opened : tie.After-starts-in-order Inv-loop μ-loop → tie.Else1 Inv-loop μ-loop
+opened c = c .before .before
+
+abbrev started : tie.After-ends-in-order Inv-loop μ-loop → tie.Else2 Inv-loop μ-loop
+started c = c .before .before
+
+abbrev number : tie.At-loop Inv-loop μ-loop → EntryNumber
+number c = record { 0 = c .loop .passed + 1 }
+
+-- what the open shows of the entry
+shown : (c : tie.Else1 Inv-loop μ-loop) → let a = begin (turn c) .args in Known (a .file .now) (a .d) (number (turn c)) (c .before .before .enter .result)
 shown c =
-    let s = begin (c .before .before .before) in
-    known (s .args .file .now) (s .args .d) (s .args .addresses) (record { 0 = c .before .before .before .before .loop .passed + 1 }) (c .before .before .enter .result) (s .pre) (c .before .before .enter .ensures) (c .if1 .left)
+    let s = begin (turn c) in
+    known (s .args .file .now) (s .args .d) (s .args .addresses) (number (turn c)) (c .before .before .enter .result) (s .pre) (c .before .before .enter .ensures) (c .if1 .left)
 
-slot : (c : tie.After-slot-of Inv-loop μ-loop) → let s = begin (c .before .before .before .before) in c .slot-of .result ≡ slotAfter (s .args .file .now) (s .args .d) (s .args .addresses) (c .before .before .before .before .before .loop .passed)
-slot c = rw (c .before .before .before .before .before .before .before .new .ensures) at (c .slot-of .ensures)
+-- its slot, in an extension that is in use
+slot : (c : tie.After-slot-of Inv-loop μ-loop) → let d = begin (turn (c .before)) .args .d in c .slot-of .result ≡ slotOf (growthIn d) (d .nex) (d .lind) (number (turn (c .before)))
+slot c = rw (turn (c .before) .before .before .new .ensures) at (c .slot-of .ensures)
 
-stands : (c : tie.After-slot-of Inv-loop μ-loop) → (1 ≤ c .slot-of .result .extension .0) × (c .slot-of .result .extension .0 ≤ begin (c .before .before .before .before) .args .d .nex)
+stands : (c : tie.After-slot-of Inv-loop μ-loop) → let a = begin (turn (c .before)) .args in
+    Admitted (length (a .file .now)) (a .d) (a .addresses) × (1 ≤ c .slot-of .result .extension .0) × (c .slot-of .result .extension .0 ≤ a .d .nex)
 stands c =
-    let s = begin (c .before .before .before .before) in
+    let s = begin (turn (c .before)) in
     let k = shown (c .before) in
-    let u = slot-in-use (length (s .args .file .now)) (s .args .d) (s .args .addresses) (s .pre) (record { 0 = c .before .before .before .before .before .loop .passed + 1 }) (k .number-low) (k .number-high) in
-    rw (slot c) (u .held .counted, u .used)
-
-opens : (c : tie.Else1 Inv-loop μ-loop) → let s = begin (c .before .before .before) in entryAt (s .args .file .now) (s .args .d) (s .args .addresses) (c .before .before .before .before .loop .passed + 1) .refusal ≡ 0
-opens c = ap (λ (x : Entered). x .refusal) (sym (c .before .before .enter .ensures)) ∙ c .if1 .left
-
-starts : (c : tie.After-starts-in-order Inv-loop μ-loop) → let s = begin (c .before .before .before .before .before) in let l = c .before .before .before .before .before .before .loop in
-    c .starts-in-order .result ≡ startsInOrder (s .args .d) (s .args .addresses) (slotAfter (s .args .file .now) (s .args .d) (s .args .addresses) (l .passed)) (l .before) (entryAt (s .args .file .now) (s .args .d) (s .args .addresses) (l .passed + 1) .start)
-starts c = rw (slot (c .before), c .before .before .before .before .enter .ensures) at (c .starts-in-order .ensures)
-
-ends : (c : tie.After-ends-in-order Inv-loop μ-loop) → let s = begin (c .before .before .before .before .before .before .before .before) in let k = c .before .before .before .before .before .before .before .before .before .loop .passed in
-    c .ends-in-order .result ≡ endsInOrder (s .args .d) (s .args .addresses) (slotAfter (s .args .file .now) (s .args .d) (s .args .addresses) k) (endOf (entryAt (s .args .file .now) (s .args .d) (s .args .addresses) (k + 1)))
-ends c = rw (slot (c .before .before .before .before), c .before .before .before .before .before .before .before .enter .ensures) at (c .ends-in-order .ensures)
-
-loop-holds : tie.Need-loop-holds Inv-loop μ-loop
-loop-holds c =
-    let q : c .entries-before .result - 0 ≡ c .entries-before .result = omega arith in
-    (omega arith, sym (end-none _ _ _), rw q)
-
-enter-requires : tie.Need-enter-requires Inv-loop μ-loop
-enter-requires c κs = begin c .pre
+    let u = slot-in-use (length (s .args .file .now)) (s .args .d) (s .args .addresses) (s .pre) (number (turn (c .before))) (k .number-low) (k .number-high) in
+    rw (slot c) (s .pre, u .held .counted, u .used)
 
 returns : tie.Need-returns Inv-loop μ-loop
 returns c =
-    let s = begin (c .before .before .before) in
-    let k = c .before .before .before .before .loop .passed in
-    let n = c .before .before .enter .result .refusal in
-    let other = ne-eqb n 0 (c .if1 .taken) in
-    fail (c .before .before .before) n (order-opening (s .args .file .now) (s .args .d) (s .args .addresses) k n (ap (λ (x : Entered). x .refusal) (sym (c .before .before .enter .ensures))) other) other
+    let t = c .before .before .before .before in
+    let x = c .before .before .enter in
+    fails-opening _ _ _ (t .loop .inv) (omega arith) (x .result) (x .ensures) (ne-eqb (x .result .refusal) 0 (c .if1 .taken))
 
 slot-of-requires : tie.Need-slot-of-requires Inv-loop μ-loop
 slot-of-requires c κs =
-    let s = begin (c .before .before .before) in
+    let s = begin (turn c) in
     let d = s .args .d in
-    let k = shown c in (
-      s .pre .settled .nex-high,
-      rw (c .before .before .before .before .before .before .new .ensures) (growing d (d .nex) (s .pre .settled) (omega arith)),
-      s .pre .settled .lind-high,
-      k .number-low,
-      rw (c .before .before .before .before .before .before .new .ensures) (omega (arith, k .number-high, fit-reach (growthIn d) (entriesBefore (d .xnext)) (d .nex) (s .pre .fit))),
-    )
-
-starts-in-order-requires : tie.Need-starts-in-order-requires Inv-loop μ-loop
-starts-in-order-requires c κs = (begin (c .before .before .before .before) .pre, stands c .0, stands c .1)
+    let reach = fit-reach (growthIn d) (entriesBefore (d .xnext)) (d .nex) (s .pre .fit) in
+    rw (turn c .before .before .new .ensures)
+    (s .pre .settled .nex-high, growing d (d .nex) (s .pre .settled) (omega arith), s .pre .settled .lind-high, shown c .number-low, omega (arith, shown c .number-high, reach))
 
 returns-2 : tie.Need-returns-2 Inv-loop μ-loop
 returns-2 c =
-    let s = begin (c .before .before .before .before .before .before) in
-    let l = c .before .before .before .before .before .before .before .loop in
-    fail (c .before .before .before .before .before .before) 25 (order-start (s .args .file .now) (s .args .d) (s .args .addresses) (l .passed) (l .before) (l .inv .1) (opens (c .before .before .before)) (broken (starts (c .before)) (c .if2 .taken))) refl
+    let o = opened (c .before) in
+    fails-start _ _ _ (turn o .loop .inv) (omega arith) (o .before .before .enter .result) (o .before .before .enter .ensures)
+    (c .before .before .slot-of .result) (slot (c .before .before)) (o .if1 .left) (c .before .starts-in-order .ensures) (c .if2 .taken)
 
 add-end : tie.Need-add-end Inv-loop μ-loop
 add-end c =
-    let k = shown (c .before .before .before .before) in
-    omega (arith, k .ends, begin (c .before .before .before .before .before .before .before) .pre .lent .high)
-
-ends-in-order-requires : tie.Need-ends-in-order-requires Inv-loop μ-loop
-ends-in-order-requires c κs = (begin (c .before .before .before .before .before .before .before) .pre, stands (c .before .before .before) .0, stands (c .before .before .before) .1)
+    let o = opened (c .before .before) in
+    omega (arith, shown o .ends, begin (turn o) .pre .lent .high)
 
 returns-3 : tie.Need-returns-3 Inv-loop μ-loop
 returns-3 c =
-    let s = begin (c .before .before .before .before .before .before .before .before .before) in
-    let l = c .before .before .before .before .before .before .before .before .before .before .loop in
-    fail (c .before .before .before .before .before .before .before .before .before) 25 (order-end (s .args .file .now) (s .args .d) (s .args .addresses) (l .passed) (l .before) (l .inv .1) (opens (c .before .before .before .before .before .before))
-    (holds (starts (c .before .before .before .before)) (c .before .before .before .if2 .left)) (broken (ends (c .before)) (c .if3 .taken))) refl
+    let t = started (c .before) .before in
+    let o = opened t in
+    fails-end _ _ _ (turn o .loop .inv) (omega arith) (o .before .before .enter .result) (o .before .before .enter .ensures)
+    (t .before .slot-of .result) (slot (t .before)) (o .if1 .left) (t .starts-in-order .ensures) (started (c .before) .if2 .left) (c .before .ends-in-order .ensures) (c .if3 .taken)
 
 loop-again : tie.Need-loop-again Inv-loop μ-loop
 loop-again c =
-    let s = begin (c .before .before .before .before .before .before .before .before .before) in
-    let l = c .before .before .before .before .before .before .before .before .before .before .loop in
-    let all = c .before .before .before .before .before .before .before .before .before .before .before .entries-before .result in
-    let q : all - (l .passed + 1) ≡ all - l .passed - 1 = omega arith in (
-      omega arith,
-      ap endOf (c .before .before .before .before .before .before .before .before .enter .ensures),
-      l .inv .2 ∙ rw q (scan-pass (s .args .file .now) (s .args .d) (s .args .addresses) (l .passed + 1) (all - l .passed) (omega arith)
-          (order-pass (s .args .file .now) (s .args .d) (s .args .addresses) (l .passed) (l .before) (l .inv .1) (opens (c .before .before .before .before .before .before)) (holds (starts (c .before .before .before .before)) (c .before .before .before .if2 .left)) (holds (ends (c .before)) (c .if3 .left)))),
-    )
-
-returns-4 : tie.Need-returns-4 Inv-loop μ-loop
-returns-4 c =
-    let s = c .before .before .before .before .before in
-    let l = c .before .loop in
-    let all = c .before .before .entries-before in
-    let q : all .result - l .passed ≡ 0 = omega arith in
-    sym (ap (checkedFrom (s .args .file .now) (s .args .d) (s .args .addresses) 1) (sym (all .ensures)) ∙ l .inv .2 ∙ rw q (scan-none (s .args .file .now) (s .args .d) (s .args .addresses) (l .passed + 1)))
+    let t = started (c .before) .before in
+    let o = opened t in
+    passes _ _ _ (turn o .loop .inv) (omega arith) (o .before .before .enter .result) (o .before .before .enter .ensures)
+    (t .before .slot-of .result) (slot (t .before)) (o .if1 .left) (t .starts-in-order .ensures) (started (c .before) .if2 .left) (c .before .ends-in-order .ensures) (c .if3 .left)
 
 pub check-entries-spec : {M : Type 1} → statement M
 check-entries-spec =
@@ -145,17 +105,17 @@ check-entries-spec =
     μ-loop
     (λ c κs. search needs)
     (λ c κs. search needs)
-    loop-holds
+    (λ c. passing-none _ _ _ (c .entries-before .ensures))
     (λ c. omega arith)
-    enter-requires
+    (λ c κs. begin (c .before) .pre)
     returns
     slot-of-requires
-    starts-in-order-requires
+    (λ c κs. stands c)
     returns-2
     add-end
-    ends-in-order-requires
+    (λ c κs. stands (c .before .before .before))
     returns-3
     (λ c. omega arith)
     (λ c. omega arith)
     loop-again
-    returns-4)
+    (λ c. passing-all _ _ _ (c .before .loop .inv) (omega arith)))

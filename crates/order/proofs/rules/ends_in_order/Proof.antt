@@ -13,12 +13,19 @@ use borrow.Author.Needs.{needs}
 use Rattle.order.proofs.rules.ends_in_order.Statement.{statement}
 use Rattle.order.proofs.rules.ends_in_order.Tie as tie
 
+-- where the function begins
+abbrev begin : tie.Else1 → tie.Start
+begin c = c .before .before .before .before .before
+
 -- the capacity of the slot's extension
-own : (c : tie.After-capacity) → c .capacity .result ≡ capacityOf (growthIn (c .before .before .before .args .d)) (c .before .before .before .args .slot .extension .0)
+own : (c : tie.After-capacity) → let a = c .before .before .before .args in c .capacity .result ≡ capacityOf (growthIn (a .d)) (a .slot .extension .0)
 own c = rw (c .before .new .ensures) at (c .capacity .ensures)
 
-other : (c : tie.Else1) → eqb (c .before .before .before .before .before .args .slot .place) (capacityOf (growthIn (c .before .before .before .before .before .args .d)) (c .before .before .before .before .before .args .slot .extension .0)) ≡ true
-other c = rw (own (c .before .before)) at (eq-eqb (c .before .before .before .before .before .args .slot .place) (c .before .before .capacity .result) (c .if1 .left))
+-- the slot is its extension's last
+full : (c : tie.Else1) → let a = c .before .before .before .before .before .args in eqb (a .slot .place) (capacityOf (growthIn (a .d)) (a .slot .extension .0)) ≡ true
+full c =
+    let l = c .before .before in
+    rw (own l) at (eq-eqb (l .before .before .before .args .slot .place) (l .capacity .result) (c .if1 .left))
 
 capacity-requires : tie.Need-capacity-requires
 capacity-requires c κs =
@@ -29,26 +36,30 @@ capacity-requires c κs =
 returns : tie.Need-returns
 unfolding endsInOrder
 returns c =
-    let a = c .before .before .before .before .before .args in
-    rw (rw (own (c .before .before)) at (ne-eqb (a .slot .place) (c .before .before .capacity .result) (c .if1 .taken)))
+    let l = c .before .before in
+    rw (rw (own l) at (ne-eqb (l .before .before .before .args .slot .place) (l .capacity .result) (c .if1 .taken)))
 
 returns-2 : tie.Need-returns-2
 unfolding endsInOrder
 returns-2 c =
-    let a = c .before .before .before .before .before .before .before .before .args in
-    rw (other (c .before .before .before), le-ltb (a .slot .extension .0) (a .d .nex) (c .if2 .taken))
+    let o = c .before .before .before in
+    let a = begin o .args in
+    rw (full o, le-ltb (a .slot .extension .0) (a .d .nex) (c .if2 .taken))
 
 position-requires : tie.Need-position-requires
 position-requires c κs =
-    let s = c .before .before .before .before .before .before .before .before .before .before in
-    let first = area-first (s .args .bytes) (s .args .d) (s .args .addresses) (s .pre .0) (s .args .slot .extension .0 + 1) (omega arith) (omega (arith, c .before .before .if2 .left)) in
+    let t = c .before .before in
+    let s = begin (t .before .before .before) in
+    let first = area-first (s .args .bytes) (s .args .d) (s .args .addresses) (s .pre .0) (s .args .slot .extension .0 + 1) (omega arith) (omega (arith, t .if2 .left)) in
     rw (c .aex .ensures) (omega (arith, first .0), first .1, omega arith, omega arith, s .pre .0 .settled .reclen-high)
 
 returns-3 : tie.Need-returns-3
 unfolding endsInOrder
 returns-3 c =
-    let a = c .before .before .before .before .before .before .before .before .before .before .before .args in
-    rw (other (c .before .before .before .before .before .before), lt-ltb (a .slot .extension .0) (a .d .nex) (c .before .before .before .if2 .left), c .position .ensures, c .before .aex .ensures)
+    let t = c .before .before .before in
+    let o = t .before .before .before in
+    let a = begin o .args in
+    rw (full o, lt-ltb (a .slot .extension .0) (a .d .nex) (t .if2 .left), c .position .ensures, c .before .aex .ensures)
 
 pub ends-in-order-spec : {M : Type 1} → statement M
 ends-in-order-spec =

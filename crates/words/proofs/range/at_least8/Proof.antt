@@ -5,15 +5,5 @@ use Rattle.words.proofs.Ranges.{atLeast-bits}
 use Rattle.words.proofs.range.at_least8.Statement.{statement}
 use Rattle.words.proofs.range.at_least8.Tie as tie
 
-returns : tie.Need-returns
-returns c =
-    let a = c .before .args in
-    rw (atLeast-bits w64 (a .low) (a .bits), le-leb (a .low) (a .bits) (c .if1 .taken))
-
-returns-2 : tie.Need-returns-2
-returns-2 c =
-    let a = c .before .args in
-    rw (atLeast-bits w64 (a .low) (a .bits), lt-leb (a .low) (a .bits) (c .if1 .left))
-
 pub at-least8-spec : {M : Type 1} → statement M
-at-least8-spec = tie.close (tie.spec returns returns-2)
+at-least8-spec = tie.close (tie.spec (λ c. rw (atLeast-bits w64 _ _, le-leb _ _ (c .if1 .taken))) (λ c. rw (atLeast-bits w64 _ _, lt-leb _ _ (c .if1 .left))))

@@ -5,15 +5,5 @@ use Rattle.words.proofs.Ranges.{within-bits}
 use Rattle.words.proofs.range.within4.Statement.{statement}
 use Rattle.words.proofs.range.within4.Tie as tie
 
-returns : tie.Need-returns
-returns c =
-    let a = c .before .args in
-    rw (within-bits w32 (a .low) (a .high) (a .bits) (c .before .pre), le-leb (a .low) (a .bits) (c .if1 .taken))
-
-returns-2 : tie.Need-returns-2
-returns-2 c =
-    let a = c .before .args in
-    rw (within-bits w32 (a .low) (a .high) (a .bits) (c .before .pre), lt-leb (a .low) (a .bits) (c .if1 .left))
-
 pub within4-spec : {M : Type 1} → statement M
-within4-spec = tie.close (tie.spec returns returns-2)
+within4-spec = tie.close (tie.spec (λ c. rw (within-bits w32 _ _ _ (c .before .pre), le-leb _ _ (c .if1 .taken))) (λ c. rw (within-bits w32 _ _ _ (c .before .pre), lt-leb _ _ (c .if1 .left))))

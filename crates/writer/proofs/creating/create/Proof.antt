@@ -21,9 +21,11 @@ put-first-requires c κs = rw (c .new .ensures) (created-fits _ _ (none (c .befo
 returns-2 : tie.Need-returns-2
 unfolding createdFile
 returns-2 c =
-    let s = c .before .before .before .before .before .before .before .before in
-    let accepted = none (c .before .before .before .before .before) in
-    (sym accepted, rw (eq-eqb (creationRefusal (length (s .args .file .now)) (s .args .settings)) 0 accepted) (rw (c .before .before .before .new .ensures) at (c .before .before .put-first .ensures)))
+    let p = c .before .before in
+    let e = p .before .before .before in
+    let s = e .before .before .before in
+    let accepted = none e in
+    (sym accepted, rw (eq-eqb (creationRefusal (length (s .args .file .now)) (s .args .settings)) 0 accepted) (rw (p .before .new .ensures) at (p .put-first .ensures)))
 
 pub create-spec : {M : Type 1} → statement M
 create-spec =

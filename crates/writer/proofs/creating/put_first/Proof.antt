@@ -1,5 +1,5 @@
 -- `writer::creating::put_first` meets its contract: its three parts are written one after the other. Assumes nothing.
-use Rattle.writer.specs.Creation.{firstWritten}
+use Rattle.fields.specs.FieldWrites.{firstWritten}
 use borrow.Author.Needs.{needs}
 use Rattle.writer.proofs.creating.put_first.Statement.{statement}
 use Rattle.writer.proofs.creating.put_first.Tie as tie

@@ -1,50 +1,142 @@
--- `writer::inner::append_from` meets its contract: it refuses by the table, or stores. Assumes nothing.
-use mathlib.Core.Path.{_≡_, sym, _∙_}
-use borrow.Author.Tests.{eq-eqb, ne-eqb}
-use lib.ListN.{length}
-use Rattle.writer.specs.Handed.{Handed, handedIn}
-use Rattle.writer.specs.Rules.{appendRefusal}
-use Rattle.writer.specs.Answers.{appendedFrom, fileFrom}
-use Rattle.writer.proofs.HandedIn.{accepted}
-use mir.Facts.{toZ-ofZ}
+-- `writer::inner::append_from` meets its contract: it refuses what is handed in, or its place, or stores it. Assumes nothing.
+use Prim.Native.Nat.{ℕ}
+use mathlib.Core.Path.{_≡_, sym, ap, _∙_}
+use native.Mathlib.Omega.{arith}
 use borrow.Author.Needs.{needs}
+use lib.ListN.{length}
+use mir.Facts.{toZ-ofZ}
+use Rattle.placing.specs.declared.placement.Placement.{Placement}
+use Rattle.placing.specs.Rules.{placementRefusal}
+use Rattle.placing.specs.Placement.{placedAt, placementOf}
+use Rattle.placing.proofs.Placed.{place-refusal, place-stands}
+use Rattle.storing.specs.declared.head.Head.{Head}
+use Rattle.storing.specs.Handed.{Handed, handedIn, nwordIn}
+use Rattle.storing.specs.Writing.{headOf, storedAt}
+use Rattle.storing.specs.Bounds.{Fitting, Accepted}
+use Rattle.storing.proofs.Accepting.{head-nword, head-counted, section-words}
+use Rattle.storing.proofs.Stores.{versioned, storing, stored-appended}
+use Rattle.writer.specs.Rules.{appendRefusal}
+use Rattle.writer.specs.Answers.{refusedFrom}
+use Rattle.writer.proofs.HandedIn.{refusalOf, fitting, accepted}
+use Rattle.writer.proofs.ByRefusal.{refused-handed, refused-place, refused-none, accepted-from}
 use Rattle.writer.proofs.inner.append_from.Statement.{statement}
 use Rattle.writer.proofs.inner.append_from.Tie as tie
 
 abbrev handed : tie.Start → Handed
 handed s = handedIn (s .args .version) (s .args .index .now) (s .args .ids .now) (s .args .lengths .now) (s .args .sections .now) (s .args .values .now)
 
--- the refusal found is the table's
-refused : (c : tie.After-append-refusal) → let s = c .before .before .before .before .before .before in
-    c .append-refusal .result ≡ appendRefusal (length (s .args .file .now)) (s .args .d) (handed s)
-refused c = rw (toZ-ofZ (c .before .before .before .before .before .before .fits .version)) at (c .append-refusal .ensures)
+-- the places on the way, each from the one behind it
+abbrev began : tie.After-handed-refusal → tie.Start
+began c = c .before .before .before .before .before
+
+abbrev from-head : tie.After-head-of → tie.Start
+from-head c = began (c .before .before)
+
+abbrev from-place : tie.After-place → tie.Start
+from-place c = from-head (c .before)
+
+-- what is handed in passed its rules
+passed : (c : tie.Else1) → let s = began (c .before) in refusalOf (s .args .d) (handed s) ≡ 0
+passed c = sym (c .before .handed-refusal .ensures) ∙ c .if1 .left
+
+fits : (c : tie.Else1) → let s = began (c .before) in Fitting (s .args .d) (handed s)
+fits c = let s = began (c .before) in fitting (s .args .d) (handed s) (passed c)
+
+-- the head
+headed : (c : tie.After-head-of) → let s = from-head c in c .head-of .result ≡ headOf (handed s) (s .args .d .xnext)
+headed c =
+    let s = from-head c in
+    (rw (toZ-ofZ (s .fits .version)) at (c .head-of .ensures)) ∙ head-counted (s .args .d) (handed s) (fits (c .before)) (s .args .d .xnext)
+
+nword : (c : tie.After-head-of) → c .head-of .result .nword ≡ nwordIn (handed (from-head c))
+nword c = let s = from-head c in ap (λ (r : Head). r .nword) (headed c) ∙ head-nword (handed s) (s .args .d .xnext)
+
+-- the place
+given : (c : tie.After-place) → let s = from-place c in
+    c .place .result ≡ placementOf (length (s .args .file .now)) (s .args .d) (s .args .addresses) (nwordIn (handed s))
+given c = let s = from-place c in c .place .ensures ∙ ap (placementOf (length (s .args .file .now)) (s .args .d) (s .args .addresses)) (nword (c .before))
+
+found : (c : tie.After-place) → let s = from-place c in
+    c .place .result .refusal ≡ placementRefusal (length (s .args .file .now)) (s .args .d) (nwordIn (handed s))
+found c = let s = from-place c in ap (λ (p : Placement). p .refusal) (given c) ∙ place-refusal (s .args .d) _ _ (s .args .addresses)
 
 returns : tie.Need-returns
-unfolding appendedFrom fileFrom
 returns c =
-    let s = c .before .before .before .before .before .before .before in
-    let e = refused (c .before) in
-    let no = ne-eqb (appendRefusal (length (s .args .file .now)) (s .args .d) (handed s)) 0 (λ q. c .if1 .taken (e ∙ q)) in
-    (rw (no, e), rw no)
+    let p = c .before .before in
+    let s = began p in
+    let e = p .handed-refusal .ensures in
+    let r = refused-handed (s .args .file .now) (s .args .d) (s .args .addresses) (handed s) (λ q. c .before .if1 .taken (e ∙ q)) in
+    (c .refused-from .ensures ∙ ap (λ (n : ℕ). refusedFrom n (s .args .d) (s .args .addresses)) e ∙ r .0, r .1)
+
+head-of-requires : tie.Need-head-of-requires
+head-of-requires c κs =
+    let f = fits c in
+    let few = f .few in
+    search needs
+
+place-requires : tie.Need-place-requires
+place-requires c κs =
+    let f = fits (c .before) in
+    (from-head c .pre, omega (arith, nword c, f .few, section-words _ _ f, c .before .before .before .before, c .before .before .before))
+
+returns-2 : tie.Need-returns-2
+returns-2 c =
+    let p = c .before .before .before in
+    let s = from-place p in
+    let e = found p in
+    let r = refused-place (s .args .file .now) (s .args .d) (s .args .addresses) (handed s) (passed (p .before .before)) (λ q. c .before .if2 .taken (e ∙ q)) in
+    (c .refused-from2 .ensures ∙ ap (λ (n : ℕ). refusedFrom n (s .args .d) (s .args .addresses)) e ∙ r .0, r .1)
+
+-- there is no refusal
+none : (c : tie.Else2) → let s = from-place (c .before .before) in appendRefusal (length (s .args .file .now)) (s .args .d) (handed s) ≡ 0
+none c =
+    let p = c .before .before in
+    let s = from-place p in
+    refused-none (s .args .file .now) (s .args .d) (s .args .addresses) (handed s) (passed (p .before .before)) (sym (found p) ∙ c .if2 .left)
+
+admits : (c : tie.Else2) → let s = from-place (c .before .before) in Accepted (length (s .args .file .now)) (s .args .d) (s .args .addresses) (handed s)
+admits c = let s = from-place (c .before .before) in accepted (s .args .d) (handed s) (length (s .args .file .now)) (s .args .addresses) (s .pre) (none c)
+
+stands : (c : tie.Else2) → let s = from-place (c .before .before) in c .before .before .place .result ≡ placedAt (s .args .d) (s .args .addresses) (nwordIn (handed s))
+stands c =
+    let p = c .before .before in
+    let s = from-place p in
+    given p ∙ place-stands (s .args .d) _ _ (s .args .addresses) (sym (found p) ∙ c .if2 .left)
 
 store-requires : tie.Need-store-requires
 store-requires c κs =
-    let s = c .before .before .before .before .before .before .before .before in
-    record {
-      accepted =
-          rw (toZ-ofZ (s .fits .version))
-          (accepted (s .args .d) (handed s) (length (s .args .file .now)) (s .args .addresses) (s .pre) (sym (refused (c .before .before)) ∙ c .before .if1 .left));
-      extends = c .before .before .before .is-full .ensures;
-    }
+    let e = c .before in
+    let p = e .before .before in
+    let s = from-place p in
+    storing _ (s .args .d) (s .args .addresses) _ _ (handed s) (admits e) (stands e) (headed (p .before))
 
-returns-2 : tie.Need-returns-2
-unfolding appendedFrom fileFrom
-returns-2 c =
-    let s = c .before .before .before .before .before .before .before .before .before .before .before in
-    let e = sym (refused (c .before .before .before .before .before)) ∙ c .before .before .before .before .if1 .left in
-    let yes = eq-eqb (appendRefusal (length (s .args .file .now)) (s .args .d) (handed s)) 0 e in
-    let stored = rw (toZ-ofZ (s .fits .version)) at (c .before .before .store .ensures) in
-    (rw yes (stored .0), rw yes (stored .1))
+returns-3 : tie.Need-returns-3
+returns-3 c =
+    let r = c .before .before .before .before .before in
+    let e = r .before .before in
+    let p = e .before .before in
+    let s = from-place p in
+    let a = s .args in
+    let h = handed s in
+    let done = accepted-from (a .file .now) (a .d) (a .addresses) h (none e) in (
+      (λ i. record { refusal = 0; number = a .d .xnext; numbers = stands e i .numbers; addresses = stands e i .addresses }) ∙ done .0,
+      r .store .ensures
+          ∙ (λ i. storedAt (a .file .now) (a .d) (stands e i) (headed (p .before) i) (versioned h (headed (p .before) i)))
+          ∙ stored-appended (a .file .now) (a .d) (a .addresses) h (admits e)
+          ∙ done .1,
+    )
 
 pub append-from-spec : {M : Type 1} → statement M
-append-from-spec = tie.close (tie.spec (λ c κs. search needs) (λ c κs. search needs) returns store-requires (λ c. search needs) returns-2)
+append-from-spec =
+    tie.close
+    (tie.spec
+    (λ c κs. search needs)
+    (λ c κs. search needs)
+    returns
+    head-of-requires
+    place-requires
+    (λ c κs. search needs)
+    returns-2
+    store-requires
+    (λ c. search needs)
+    returns-3)

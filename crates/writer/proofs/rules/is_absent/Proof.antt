@@ -9,9 +9,10 @@ use mir.Val.{ofZ}
 use mir.Facts.{toZ-ofZ}
 use Rattle.words.specs.Word.{integer4, signedOf}
 use Rattle.words.proofs.Runs.{run-next, run-failed}
-use Rattle.entry.proofs.SectionTables.{same-equal, same-other}
-use Rattle.writer.specs.Handed.{absent}
-use Rattle.writer.proofs.HandedIn.{read-back, absent-run}
+use Rattle.pieces.proofs.SectionTables.{same-equal, same-other}
+use Rattle.storing.specs.Handed.{absent}
+use Rattle.storing.proofs.Lengths.{read-back}
+use Rattle.writer.proofs.HandedIn.{absent-run}
 use Rattle.writer.proofs.rules.is_absent.Statement.{statement}
 use Rattle.writer.proofs.rules.is_absent.Tie as tie
 

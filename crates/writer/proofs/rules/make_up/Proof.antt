@@ -10,8 +10,8 @@ use lib.Dec.{eqb}
 use lib.IntN.{pos}
 use lib.ListN.{length, getD, take}
 use lib.Seq.{take-all}
-use Rattle.writer.specs.Handed.{wordsOf, sumOf}
-use Rattle.writer.proofs.TableBytes.{sum-next, sum-fewer, length-words}
+use Rattle.storing.specs.Handed.{wordsOf, sumOf}
+use Rattle.storing.proofs.Lengths.{sum-next, sum-fewer, length-words}
 use Rattle.writer.proofs.rules.make_up.Statement.{statement}
 use Rattle.writer.proofs.rules.make_up.Tie as tie
 
@@ -31,21 +31,29 @@ abbrev μ-loop : tie.MeasureT-loop
 returns : tie.Need-returns Inv-loop μ-loop
 returns c = sym (ne-eqb (c .before .args .bytes) (4 * sumOf (now (c .before .args .lengths))) (λ q. c .if1 .taken (omega arith)))
 
+-- the turn, and where the function began
+abbrev turn : tie.After-bits64 Inv-loop μ-loop → tie.At-loop Inv-loop μ-loop
+turn c = c .before .before .before
+
+abbrev began : tie.At-loop Inv-loop μ-loop → tie.Start Inv-loop μ-loop
+began c = c .before .before
+
 -- what is taken off is the length passed
-words : (c : tie.After-bits64 Inv-loop μ-loop) → c .bits64 .result ≡ wordsOf (getD (now (c .before .before .before .before .before .args .lengths)) (c .before .before .before .loop .passed) (pos 0))
-words c = length-words _ _ _ (c .before .before .before .before .before .pre) (c .before .before .loop-test .taken) (c .before .bits64-arg .given) (c .bits64 .ensures)
+words : (c : tie.After-bits64 Inv-loop μ-loop) → c .bits64 .result ≡ wordsOf (getD (now (began (turn c) .args .lengths)) (turn c .loop .passed) (pos 0))
+words c = length-words _ _ _ (began (turn c) .pre) (c .before .before .loop-test .taken) (c .before .bits64-arg .given) (c .bits64 .ensures)
 
 returns-2 : tie.Need-returns-2 Inv-loop μ-loop
 returns-2 c =
-    let l = c .before .before .before .before .loop in
-    let lengths = now (c .before .before .before .before .before .before .args .lengths) in
-    sym (ne-eqb (c .before .before .before .before .before .before .args .bytes) (4 * sumOf lengths)
+    let l = turn (c .before) .loop in
+    let a = began (turn (c .before)) .args in
+    let lengths = now (a .lengths) in
+    sym (ne-eqb (a .bytes) (4 * sumOf lengths)
     (λ q. omega (arith, words (c .before), sum-next lengths (l .passed) (omega arith), sum-fewer lengths (l .passed + 1))))
 
 loop-again : tie.Need-loop-again Inv-loop μ-loop
 loop-again c =
-    let l = c .before .before .before .before .loop in
-    omega (arith, words (c .before), sum-next (now (c .before .before .before .before .before .before .args .lengths)) (l .passed) (omega arith))
+    let t = turn (c .before) in
+    omega (arith, words (c .before), sum-next (now (began t .args .lengths)) (t .loop .passed) (omega arith))
 
 returns-3 : tie.Need-returns-3 Inv-loop μ-loop
 returns-3 c =

@@ -15,21 +15,8 @@ use Rattle.descriptor.proofs.numbers.DescriptorNumbers.new.Tie as tie
 back : (z : ℤ) → mag z < 2 ^ 31 → toZ w32 (ofZ w32 z) ≡ z
 back z h = toZ-ofZ {w = w32} (record { sfits = h })
 
-returns : tie.Need-returns
-unfolding createdOf
-returns c =
-    let six = c .before .before in
-    let five = six .before .before in
-    let four = five .before .before in
-    let three = four .before .before in
-    let two = three .before .before in
-    let one = two .before .before in
-    let told = one .before .struct-told .given in
-    let s = one .before .before .args .settings in
-    rw (one .bits32 .ensures, two .bits322 .ensures, three .bits323 .ensures, four .bits324 .ensures, five .bits325 .ensures, six .bits326 .ensures, c .bits327 .ensures)
-    (rw (back (s .reclen) (told .0 .1), back (s .kind) (told .1 .0 .1), back (s .vind) (told .1 .1 .0 .1), back (s .lind) (told .1 .1 .1 .0 .1), back (s .flags) (told .1 .1 .1 .1 .0 .1), back (s .lex1) (told .1 .1 .1 .1 .1 .0 .1), back (s .gex) (told .1 .1 .1 .1 .1 .1 .0 .1)))
-
 pub new-spec : {M : Type 1} → statement M
+unfolding createdOf
 new-spec =
     tie.close
     (tie.spec
@@ -47,4 +34,14 @@ new-spec =
     (λ c. search needs)
     (λ c κs. search needs)
     (λ c. search needs)
-    returns)
+    (λ c.
+    let six = c .before .before in
+    let five = six .before .before in
+    let four = five .before .before in
+    let three = four .before .before in
+    let two = three .before .before in
+    let one = two .before .before in
+    let told = one .before .struct-told .given in
+    let s = one .before .before .args .settings in
+    rw (one .bits32 .ensures, two .bits322 .ensures, three .bits323 .ensures, four .bits324 .ensures, five .bits325 .ensures, six .bits326 .ensures, c .bits327 .ensures)
+    (rw (back (s .reclen) (told .0 .1), back (s .kind) (told .1 .0 .1), back (s .vind) (told .1 .1 .0 .1), back (s .lind) (told .1 .1 .1 .0 .1), back (s .flags) (told .1 .1 .1 .1 .0 .1), back (s .lex1) (told .1 .1 .1 .1 .1 .0 .1), back (s .gex) (told .1 .1 .1 .1 .1 .1 .0 .1)))))

@@ -1,0 +1,12 @@
+-- Two outcomes of `classic_append` that both meet its contract are equal. Assumes nothing.
+use Prim.Native.Nat.{ℕ}
+use mathlib.Core.Path.{_≡_}
+use mathlib.Core.List.{List}
+use Rattle.outcome.proofs.Determined.{one-outcome}
+use Rattle.storing.specs.Handed.{Handed}
+use Rattle.classic.specs.declared.answers.ClassicAppended.{ClassicAppended}
+use Rattle.classic.specs.Answers.{AppendsForC}
+
+-- an append for C has one outcome
+pub append-for-c-determined : (file f g : List ℕ) (h : Handed) (p q : ClassicAppended) → AppendsForC file h p f → AppendsForC file h q g → (p ≡ q) × (f ≡ g)
+append-for-c-determined file f g h p q a b = one-outcome a b

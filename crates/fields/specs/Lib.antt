@@ -1,0 +1,3 @@
+-- What the contracts of `fields` cite: what is written into the first record.
+pub mod FieldWrites
+pub mod Bounds

@@ -1,0 +1,2 @@
+-- The laws of `handing` that later layers cite.
+pub mod Handing

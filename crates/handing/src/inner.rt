@@ -1,0 +1,102 @@
+// Where the parts of an entry of validated numbers stand.
+use super::place::PartPlace;
+use descriptor::DescriptorNumbers;
+use entry::inner::enter;
+use entry::inner::slot_position;
+use geometry::EntryNumber;
+use geometry::RecordNumber;
+use geometry::byte_offset;
+use geometry::entry_position;
+use pieces::section_at;
+use pieces::section_named;
+ghost use Prim.Native.Nat.{_+_, _^_, _<_};
+ghost use lib.ListN.{length};
+ghost use Rattle.outcome.specs.Outcome.{Answers};
+ghost use Rattle.descriptor.specs.Bounds.{Admitted};
+ghost use Rattle.handing.specs.Parts.{indexPart, sectionPart, dataPart, noPart, wordsFrom};
+
+// A part with a refusal, or with nothing in it.
+pub fn no_part(refusal: u32) -> PartPlace
+    ensures { λ r. ⌜ Answers (noPart refusal) r ⌝ }
+{
+    PartPlace {
+        refusal,
+        start: 0,
+        end: 0,
+    }
+}
+
+// The part that holds a count of words from a position on.
+fn words_from(position: u64, words: u64) -> PartPlace
+    requires { ⌜ position + words < 2 ^ 32 ⌝ }
+    ensures { λ r. ⌜ Answers (wordsFrom position words) r ⌝ }
+{
+    let start = byte_offset(position);
+    PartPlace {
+        refusal: 0,
+        start,
+        end: start + byte_offset(words),
+    }
+}
+
+// Where the application's words of an entry's index stand.
+pub fn index_part(
+    file: &[u8],
+    d: DescriptorNumbers,
+    addresses: [RecordNumber; 16],
+    number: EntryNumber,
+) -> PartPlace
+    requires { ⌜ Admitted (length (now file)) d addresses ⌝ }
+    ensures { λ r. ⌜ Answers (indexPart (now (file .entry)) d addresses number) r ⌝ }
+{
+    let entered = enter(file, d, addresses, number);
+    if entered.refusal != 0 {
+        return no_part(entered.refusal);
+    }
+    let slot = slot_position(file.len() as u64, d, addresses, number);
+    words_from(slot + 3, d.lind - 3)
+}
+
+// Where the first section with an identifier stands.
+pub fn section_part(
+    file: &[u8],
+    d: DescriptorNumbers,
+    addresses: [RecordNumber; 16],
+    number: EntryNumber,
+    identifier: i32,
+) -> PartPlace
+    requires { ⌜ Admitted (length (now file)) d addresses ⌝ }
+    ensures { λ r. ⌜ Answers (sectionPart (now (file .entry)) d addresses number identifier) r ⌝ }
+{
+    let entered = enter(file, d, addresses, number);
+    if entered.refusal != 0 {
+        return no_part(entered.refusal);
+    }
+    let found = section_named(file, entered.start, entered.nsec, identifier);
+    if entered.nsec <= found {
+        return no_part(20);
+    }
+    let piece = section_at(file, entered.start, entered.nsec, found);
+    words_from(entry_position(entered.start, piece.address), piece.words)
+}
+
+// Where the data stands.
+pub fn data_part(
+    file: &[u8],
+    d: DescriptorNumbers,
+    addresses: [RecordNumber; 16],
+    number: EntryNumber,
+) -> PartPlace
+    requires { ⌜ Admitted (length (now file)) d addresses ⌝ }
+    ensures { λ r. ⌜ Answers (dataPart (now (file .entry)) d addresses number) r ⌝ }
+{
+    let entered = enter(file, d, addresses, number);
+    if entered.refusal != 0 {
+        return no_part(entered.refusal);
+    }
+    let piece = entered.array;
+    if piece.words == 0 {
+        return no_part(0);
+    }
+    words_from(entry_position(entered.start, piece.address), piece.words)
+}

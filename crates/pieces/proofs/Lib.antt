@@ -1,0 +1,3 @@
+-- The laws of `pieces` that later layers cite.
+pub mod Pieces
+pub mod SectionTables

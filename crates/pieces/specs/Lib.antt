@@ -1,0 +1,5 @@
+-- What the contracts of `pieces` cite: the entry descriptor's fields, what an entry holds, the tables; and the bounds that the code asks.
+pub mod EntryDescriptor
+pub mod Contents
+pub mod Tables
+pub mod Bounds

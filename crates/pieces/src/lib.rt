@@ -1,0 +1,19 @@
+// What stands in an entry's words: its numbers, its sections and its data, each of these a piece of it.
+//
+// An entry is known by the position of its first word. The functions read its words and tables, and
+// test where its pieces stand. They are for entries whose words lie within the file, which they require.
+mod contents;
+mod tables;
+
+pub use contents::Piece;
+pub use contents::data_apart;
+pub use contents::data_within;
+pub use contents::section_at;
+pub use contents::sections_apart;
+pub use contents::sections_within;
+pub use contents::word4_at;
+pub use contents::word8_at;
+pub use tables::Sections;
+pub use tables::no_sections;
+pub use tables::section_named;
+pub use tables::section_tables;

@@ -1,0 +1,4 @@
+pub mod Places
+pub mod AreasAgree
+pub mod Kept
+pub mod Placed

@@ -1,0 +1,100 @@
+-- What holds of an accepted append: its words are within the bytes lent, and its numbers are admitted again. Assumes nothing.
+use Prim.Native.Nat.{ℕ, _+_, _*_, _/_, _^_, _≤_}
+use mathlib.Core.Path.{_≡_, refl, ap}
+use mathlib.Core.List.{List}
+use native.Mathlib.Omega.{arith}
+use lib.ListN.{length}
+use Rattle.geometry.specs.declared.units.RecordNumber.{RecordNumber}
+use Rattle.geometry.specs.declared.units.EntryNumber.{EntryNumber}
+use Rattle.geometry.specs.Units.{entriesBefore}
+use Rattle.descriptor.specs.declared.numbers.DescriptorNumbers.{DescriptorNumbers}
+use Rattle.descriptor.specs.Bounds.{Admitted}
+use Rattle.pieces.specs.EntryDescriptor.{wordOffset}
+use Rattle.layout.specs.EntryWords.{firstContent}
+use Rattle.entry.specs.Opening.{slotPositionOf}
+use Rattle.entry.proofs.Entering.{slot-inside}
+use Rattle.storing.specs.Handed.{Handed, sumOf, nsecIn, ldataIn, nwordIn}
+use Rattle.placing.specs.Placing.{entryStart, numbersAfter, addressesAfter}
+use Rattle.storing.specs.Writing.{behind, headFrom, headOf}
+use Rattle.storing.specs.Bounds.{Fitting, Accepted}
+use Rattle.placing.proofs.Kept.{kept}
+
+-- ---- the numbers of what is handed in
+
+-- the nword that the head has
+pub head-nword : (h : Handed) (number : EntryNumber) → headOf h number .nword ≡ nwordIn h
+unfolding headFrom
+head-nword h number = refl
+
+-- the version
+pub head-version : (h : Handed) (number : EntryNumber) → headOf h number .version ≡ h .version
+unfolding headFrom
+head-version h number = refl
+
+-- and the nsec
+pub head-nsec : (h : Handed) (number : EntryNumber) → headOf h number .nsec ≡ nsecIn h
+unfolding headFrom
+head-nsec h number = refl
+
+module _ (d : DescriptorNumbers) (h : Handed) (f : Fitting d h) where
+  -- the sections' bytes are whole words, as many as the lengths say
+  pub section-words : length (h .sections) / 4 ≡ sumOf (h .lengths)
+  section-words = omega (arith, f .sections)
+
+  -- and so are the data's
+  pub value-bytes : length (h .values) ≡ 4 * ldataIn h
+  value-bytes = omega (arith, f .whole)
+
+  -- the data follow them
+  pub data-next : (start : ℕ) → wordOffset start (behind (firstContent (nsecIn h)) (sumOf (h .lengths))) ≡ wordOffset start (firstContent (nsecIn h)) + length (h .sections)
+  data-next start = omega (arith, f .sections)
+
+  -- so the head is made of counts of bytes
+  pub head-counted : (number : EntryNumber) → headFrom (h .version) (length (h .ids)) (length (h .sections) / 4) (length (h .values) / 4) number ≡ headOf h number
+  head-counted number = ap (λ (n : ℕ). headFrom (h .version) (length (h .ids)) n (length (h .values) / 4) number) section-words
+
+-- ---- the accepted append
+
+module _ (bytes : ℕ) (d : DescriptorNumbers) (addresses : List RecordNumber) (h : Handed) (x : Accepted bytes d addresses h) where
+  -- the entry ends within the bytes lent
+  pub entry-within : 4 * (entryStart d + nwordIn h) ≤ bytes
+  entry-within = omega (arith, x .inside)
+
+  -- and so its end is small
+  pub entry-small : entryStart d + nwordIn h ≤ 2 ^ 28
+  entry-small = omega (arith, x .inside, x .admitted .lent .high)
+
+  -- the numbers after it
+  abbrev pub after : DescriptorNumbers
+  after = numbersAfter d (entryStart d + nwordIn h)
+
+  -- the addresses after it
+  abbrev pub addressesThen : List RecordNumber
+  addressesThen = addressesAfter d addresses
+
+  -- which are admitted again
+  pub admitted-after : Admitted bytes after addressesThen
+  admitted-after = kept bytes d addresses (x .admitted) (x .extensible) (entryStart d + nwordIn h) (omega arith) (x .inside)
+
+  -- the entry is the last of them
+  pub number-last : entriesBefore (after .xnext) ≡ d .xnext .0
+  unfolding numbersAfter
+  number-last = omega arith
+
+  -- where its index stands
+  abbrev pub slotThen : ℕ
+  slotThen = slotPositionOf after addressesThen (d .xnext)
+
+  lind-same : after .lind ≡ d .lind
+  unfolding numbersAfter
+  lind-same = refl
+
+  -- its index ends within the bytes lent
+  pub slot-within : slotThen + d .lind ≤ bytes / 4
+  slot-within =
+      omega (
+        arith,
+        lind-same,
+        admitted-after .room,
+        slot-inside bytes after addressesThen admitted-after (d .xnext) (x .admitted .counted) (omega (arith, number-last)),
+      )

@@ -1,0 +1,4 @@
+pub mod Lengths
+pub mod TableBytes
+pub mod Accepting
+pub mod Stores

@@ -1,0 +1,117 @@
+-- What an accepted append at its place gives to each step of storing, and that the steps leave the file after an accepted append. Assumes nothing.
+use Prim.Native.Nat.{ℕ, _+_, _*_, _-_, _^_, _≤_, _<_}
+use mathlib.Core.Path.{_≡_, sym, ap, _∙_}
+use mathlib.Core.List.{List}
+use native.Mathlib.Omega.{arith}
+use lib.IntN.{ℤ}
+use lib.ListN.{length}
+use Rattle.image.specs.Image.{splice}
+use Rattle.geometry.specs.declared.units.RecordNumber.{RecordNumber}
+use Rattle.geometry.specs.declared.units.EntryAddress.{EntryAddress}
+use Rattle.geometry.specs.Units.{entriesBefore, placeOf}
+use Rattle.geometry.proofs.Positions.{place-word}
+use Rattle.layout.specs.EntryWords.{firstContent}
+use Rattle.descriptor.specs.declared.numbers.DescriptorNumbers.{DescriptorNumbers}
+use Rattle.descriptor.specs.Bounds.{Admitted}
+use Rattle.pieces.specs.EntryDescriptor.{wordOffset}
+use Rattle.placing.specs.declared.placement.Placement.{Placement}
+use Rattle.placing.specs.Placing.{full, entryStart, numbersAfter}
+use Rattle.placing.specs.Placement.{placedAt}
+use Rattle.storing.specs.declared.head.Head.{Head}
+use Rattle.storing.specs.Handed.{Handed, handedIn, nsecIn, nwordIn}
+use Rattle.storing.specs.Writing.{headFrom, headOf, indexPut, areaWritten, descriptorPut, storedAt, entryWritten, indexWritten, appended}
+use Rattle.storing.specs.Bounds.{Describing, Accepted, Storing}
+use Rattle.storing.proofs.Accepting.{head-version, head-nsec, value-bytes, data-next, entry-within, entry-small, admitted-after, number-last}
+
+module _ (bytes : ℕ) (d : DescriptorNumbers) (placed : Placement) (head : Head) (h : Handed) (q : Storing bytes d placed head h) where
+  abbrev x : Accepted bytes d (q .addresses) h
+  x = q .accepted
+
+  -- where the entry starts
+  pub start-placed : placed .start ≡ entryStart d
+  start-placed = ap (λ (p : Placement). p .start) (q .stands)
+
+  -- whether an extension is made for it
+  pub extends-placed : placed .extends ≡ full d
+  extends-placed = ap (λ (p : Placement). p .extends) (q .stands)
+
+  -- how many sections it has
+  pub nsec-headed : head .nsec ≡ nsecIn h
+  nsec-headed = ap (λ (r : Head). r .nsec) (q .headed) ∙ head-nsec h (d .xnext)
+
+  -- it has no more words than the bytes lent
+  pub start-inside : 4 * (placed .start + nwordIn h) ≤ bytes
+  start-inside = omega (arith, start-placed, entry-within bytes d (q .addresses) h x)
+
+  -- and so its place is small
+  pub start-small : placed .start + nwordIn h ≤ 2 ^ 28
+  start-small = omega (arith, start-placed, entry-small bytes d (q .addresses) h x)
+
+  -- its descriptor has its words in the file
+  pub describing : Describing bytes (placed .start) head (h .ids) (h .lengths)
+  describing =
+      let f = x .fitting in
+      record {
+        low = omega (arith, start-small);
+        few = f .few;
+        pairs = f .pairs;
+        nsec = nsec-headed;
+        counted = f .counted;
+        small = omega (arith, start-small);
+        inside = omega (arith, start-inside);
+      }
+
+  -- and so have its sections and its data
+  pub content-inside : (first : EntryAddress) → first ≡ firstContent (head .nsec)
+      → (1 ≤ first .0) × (placed .start + first .0 < 2 ^ 32) × (wordOffset (placed .start) first + length (h .sections) + length (h .values) ≤ bytes)
+  content-inside first e =
+      let f = x .fitting in
+      let at : first .0 ≡ firstContent (nsecIn h) .0 = ap (λ (a : EntryAddress). a .0) (e ∙ ap firstContent nsec-headed) in
+      (omega (arith, at), omega (arith, at, start-small), omega (arith, at, start-inside, f .sections, value-bytes d h f))
+
+  -- the numbers after it are admitted
+  pub placed-admitted : Admitted bytes (placed .numbers) (placed .addresses)
+  placed-admitted = rw (q .stands) (admitted-after bytes d (q .addresses) h x)
+
+  -- it is the last entry of them
+  pub number-placed : d .xnext .0 ≤ entriesBefore (placed .numbers .xnext)
+  number-placed = rw (q .stands) (omega (arith, number-last bytes d (q .addresses) h x))
+
+  -- and lind stays
+  lind-kept : placed .numbers .lind ≡ d .lind
+  unfolding numbersAfter
+  lind-kept = ap (λ (p : Placement). p .numbers .lind) (q .stands)
+
+  -- its index words fill the slot
+  pub index-fits : length (h .index) ≡ 4 * (placed .numbers .lind - 3)
+  index-fits = omega (arith, lind-kept, x .fitting .index)
+
+  -- the word where it starts is one of a record
+  pub word-small : placeOf (d .reclen) (placed .start) .word .0 ≤ 4096
+  word-small =
+      let s = x .admitted .settled in
+      omega (arith, place-word (d .reclen) (placed .start) (omega (arith, s .reclen-low)), s .reclen-high)
+
+-- what is handed in with the version of a head
+abbrev pub versioned : Handed → Head → Handed
+versioned h head = handedIn (head .version) (h .index) (h .ids) (h .lengths) (h .sections) (h .values)
+
+-- an accepted append at its place, with its head, may be stored
+pub storing : (bytes : ℕ) (d : DescriptorNumbers) (addresses : List RecordNumber) (placed : Placement) (head : Head) (h : Handed) → Accepted bytes d addresses h
+    → placed ≡ placedAt d addresses (nwordIn h) → head ≡ headOf h (d .xnext)
+    → Storing bytes d placed head (versioned h head)
+storing bytes d addresses placed head h x e f =
+    let same = ap (λ (r : Head). r .version) f ∙ head-version h (d .xnext) in
+    let with : ℤ → Handed = λ (v : ℤ). handedIn v (h .index) (h .ids) (h .lengths) (h .sections) (h .values) in
+    record { addresses = addresses; accepted = rw same x; stands = e; headed = f ∙ ap (λ (v : ℤ). headOf (with v) (d .xnext)) (sym same) }
+
+-- the steps leave the file after an accepted append
+pub stored-appended : (file : List ℕ) (d : DescriptorNumbers) (addresses : List RecordNumber) (h : Handed) → Accepted (length file) d addresses h
+    → storedAt file d (placedAt d addresses (nwordIn h)) (headOf h (d .xnext)) (versioned h (headOf h (d .xnext))) ≡ appended file d addresses h
+unfolding storedAt appended indexWritten entryWritten headFrom
+stored-appended file d addresses h x =
+    let start = entryStart d in
+    let first = firstContent (nsecIn h) in
+    let p = placedAt d addresses (nwordIn h) in
+    let described = splice (descriptorPut (areaWritten file d) start (headOf h (d .xnext)) (h .ids) (h .lengths)) (wordOffset start first) (h .sections) in
+    ap (λ (at : ℕ). indexPut (splice described at (h .values)) (p .numbers) (p .addresses) (d .xnext) (placeOf (d .reclen) start) (h .index)) (sym (data-next d h (x .fitting) start))

@@ -1,0 +1,4 @@
+-- What the contracts of `storing` cite: what is handed to an append, and what an accepted one writes.
+pub mod Handed
+pub mod Writing
+pub mod Bounds
