@@ -6,48 +6,32 @@ use native.Mathlib.Omega.{arith}
 use borrow.Author.Tests.{eqb-true}
 use lib.Dec.{eqb}
 use lib.ListN.{length}
-use mir.Syntax.{w32}
-use Rattle.words.proofs.Ranges.{within-bounds, atLeast-bounds}
 use Rattle.geometry.specs.declared.units.EntryNumber.{EntryNumber}
 use Rattle.descriptor.specs.FirstRecord.{numbersOf, addressesOf}
 use Rattle.descriptor.specs.Rules.{fileRefusal}
 use Rattle.descriptor.specs.Answers.{validationOf, validatedCase}
-use Rattle.descriptor.proofs.Passed.{setting-rows}
+use Rattle.descriptor.specs.Bounds.{Narrow}
+use Rattle.descriptor.proofs.Passed.{narrow}
 use Rattle.descriptor.proofs.Answered.{file-passed, file-admitted, answer-numbers, answer-refused}
 use Rattle.entry.specs.Opening.{entryRefusal}
 use Rattle.entry.specs.Answers.{openOf, openCase, openedAs}
 use Rattle.entry.proofs.Entering.{entry-opens, entered-numbers, entered-refused}
 use Rattle.entry.proofs.Opened.{open-refused, open-numbers}
 use Rattle.outcome.proofs.Either.{either}
-use Rattle.classic.specs.Bounds.{Narrow, Slim}
+use Rattle.classic.specs.Bounds.{Slim}
 
--- those of an admitted file fit
-numbers-narrow : (file : List ℕ) → fileRefusal file ≡ 0 → Narrow (numbersOf file)
-numbers-narrow file z =
-    let d = numbersOf file in
-    let a = file-admitted file z in
-    let s = a .settled in
-    let rows = setting-rows (length file) d (file-passed file z .settings) in
-    record {
-      reclen = omega (arith, s .reclen-high);
-      kind = omega (arith, within-bounds w32 1 3 (d .kind) (omega arith) (rows .kind));
-      vind = omega (arith, atLeast-bounds w32 2 (d .vind) (rows .vind));
-      lind = omega (arith, s .lind-high);
-      flags = omega (arith, within-bounds w32 0 1 (d .flags) (omega arith) (rows .flags));
-      nextword = omega (arith, a .free .word-high, s .reclen-high);
-      lex1 = omega (arith, s .lex1-high);
-      nex = omega (arith, s .nex-high);
-      gex = omega (arith, s .gex-high);
-    }
-
--- so do those of either case of a validation
-pub narrow : (file : List ℕ) → Narrow (validatedCase (validationOf file .numbers) .numbers)
-narrow file =
+-- those of either case of a validation fit
+pub validated-narrow : (file : List ℕ) → Narrow (validatedCase (validationOf file .numbers) .numbers)
+validated-narrow file =
     either (eqb (fileRefusal file) 0)
-    (λ q. let z = eqb-true (fileRefusal file) 0 q in rw (answer-numbers file z) (numbers-narrow file z))
+    (λ q.
+    let z = eqb-true (fileRefusal file) 0 q in
+    let a = file-admitted file z in
+    rw (answer-numbers file z)
+    (narrow (length file) (numbersOf file) (file-passed file z .settings) (omega (arith, a .free .word-high, a .settled .reclen-high))))
     (λ q. rw (answer-refused file (fileRefusal file) refl q) (omega arith))
 
--- those of either case of an open fit
+-- and so do those of either case of an open
 pub slim : (file : List ℕ) (e : EntryNumber) → Slim (openCase (openOf file e .answer))
 unfolding openedAs
 slim file e =

@@ -10,8 +10,8 @@ use geometry::ExtensionNumber;
 use geometry::RecordNumber;
 ghost use Rattle.outcome.specs.Outcome.{Answers};
 ghost use Rattle.descriptor.specs.Answers.{validationOf, extensionOf};
+ghost use Rattle.descriptor.specs.Bounds.{Narrow};
 ghost use Rattle.classic.specs.Answers.{descriptorFrom, descriptorFor, extensionFor};
-ghost use Rattle.classic.specs.Bounds.{Narrow};
 
 // A descriptor from a case and the addresses.
 fn descriptor_from(case: ValidatedCase, addresses: [RecordNumber; 16]) -> ClassicDescriptor

@@ -1,5 +1,5 @@
 -- What the rules leave once they are passed. Assumes nothing.
-use Prim.Native.Nat.{ℕ, _+_, _*_, _-_, _/_, _%_, _^_, _≤_}
+use Prim.Native.Nat.{ℕ, _+_, _*_, _-_, _/_, _%_, _^_, _≤_, _<_}
 use mathlib.Core.Path.{_≡_}
 use mathlib.Core.Bool.{true, not}
 use mathlib.Core.List.{List}
@@ -21,7 +21,7 @@ use Rattle.geometry.specs.Growth.{overOf}
 use Rattle.descriptor.specs.declared.numbers.DescriptorNumbers.{DescriptorNumbers}
 use Rattle.descriptor.specs.FirstRecord.{mexOf, growthIn, freeOf}
 use Rattle.descriptor.specs.Rules.{settingRules, fillingRules, settingRefusal, fillingRefusal}
-use Rattle.descriptor.specs.Bounds.{Settled, Lent, Free, Admitted}
+use Rattle.descriptor.specs.Bounds.{Settled, Narrow, Lent, Free, Admitted}
 use Rattle.descriptor.proofs.Refusals.{all-hold}
 
 -- mex is 16 at most
@@ -71,6 +71,23 @@ module _ (bytes : ℕ) (d : DescriptorNumbers) where
       let room = mex-room (d .reclen) (d .nex) (reclen .0) (nex .1) in
       let within = not-true (overOf (growthIn d) (d .nex)) (a .capacities) in
       search needs
+
+  -- so each fits its field, if nextword does
+  pub narrow : settingRefusal bytes d ≡ 0 → d .nextword .0 < 2 ^ 32 → Narrow d
+  narrow e h =
+      let s = settled e in
+      let a = setting-rows e in
+      record {
+        reclen = omega (arith, s .reclen-high);
+        kind = omega (arith, within-bounds w32 1 3 (d .kind) (omega arith) (a .kind) .1);
+        vind = omega (arith, atLeast-bounds w32 2 (d .vind) (a .vind) .1);
+        lind = omega (arith, s .lind-high);
+        flags = omega (arith, within-bounds w32 0 1 (d .flags) (omega arith) (a .flags) .1);
+        nextword = h;
+        lex1 = omega (arith, s .lex1-high);
+        nex = omega (arith, s .nex-high);
+        gex = omega (arith, s .gex-high);
+      }
 
   -- and the bytes lent are whole records, one at least
   pub lent : settingRefusal bytes d ≡ 0 → 64 ≤ bytes → Lent bytes d

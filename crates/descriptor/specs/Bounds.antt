@@ -1,5 +1,5 @@
 -- What the rules leave once they are passed, as the functions behind them ask for it.
-use Prim.Native.Nat.{ℕ, _+_, _*_, _/_, _%_, _^_, _≤_}
+use Prim.Native.Nat.{ℕ, _+_, _*_, _/_, _%_, _^_, _≤_, _<_}
 use mathlib.Core.Path.{_≡_}
 use mathlib.Core.Bool.{true, false}
 use mathlib.Core.List.{List}
@@ -25,6 +25,18 @@ pub record Settled (d : DescriptorNumbers) : Type 0 where
   pub nex-high : d .nex ≤ 16
   pub nex-room : 14 + 2 * d .nex ≤ d .reclen
   pub within : overOf (growthIn d) (d .nex) ≡ false
+
+-- the numbers of an Integer*4 have 32 bits
+pub record Narrow (d : DescriptorNumbers) : Type 0 where
+  pub reclen : d .reclen < 2 ^ 32
+  pub kind : d .kind < 2 ^ 32
+  pub vind : d .vind < 2 ^ 32
+  pub lind : d .lind < 2 ^ 32
+  pub flags : d .flags < 2 ^ 32
+  pub nextword : d .nextword .0 < 2 ^ 32
+  pub lex1 : d .lex1 < 2 ^ 32
+  pub nex : d .nex < 2 ^ 32
+  pub gex : d .gex < 2 ^ 32
 
 -- rules 1 and 4: the bytes lent are whole records, one at least
 pub record Lent (bytes : ℕ) (d : DescriptorNumbers) : Type 0 where

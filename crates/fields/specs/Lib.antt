@@ -1,3 +1,2 @@
 -- What the contracts of `fields` cite: what is written into the first record.
 pub mod FieldWrites
-pub mod Bounds

@@ -14,8 +14,8 @@ ghost use Rattle.image.specs.Image.{splice};
 ghost use Rattle.image.specs.Writes.{writes};
 ghost use Rattle.words.specs.Word.{numeral};
 ghost use Rattle.geometry.specs.Units.{firstRecordOffsetOf};
+ghost use Rattle.descriptor.specs.Bounds.{Narrow};
 ghost use Rattle.fields.specs.FieldWrites.{settingWrites, countWrites, growthWrites};
-ghost use Rattle.fields.specs.Bounds.{Storable};
 
 // Writes the Integer*4 at a word of the first record.
 pub fn put_field4(file: &mut [u8], word: WordNumber, bits: u64)
@@ -35,7 +35,7 @@ pub fn put_field8(file: &mut [u8], word: WordNumber, bits: u64)
 
 // Writes the code and the settings that come first.
 pub fn put_settings(file: &mut [u8], d: DescriptorNumbers)
-    requires { ⌜ Storable d × (64 ≤ length (now file)) ⌝ }
+    requires { ⌜ Narrow d × (64 ≤ length (now file)) ⌝ }
     ensures { λ _. ⌜ Leaves (writes (now (file .entry)) (settingWrites d)) (now (file .exit)) ⌝ }
 {
     let code = first_record::FILE_CODE;
@@ -59,7 +59,7 @@ pub fn put_counts(file: &mut [u8], d: DescriptorNumbers)
 
 // Writes the growth, and zeros from there to the record's end.
 pub fn put_growth(file: &mut [u8], d: DescriptorNumbers)
-    requires { ⌜ Storable d × (16 ≤ d .reclen) × (d .reclen ≤ 4096) × (4 * d .reclen ≤ length (now file)) ⌝ }
+    requires { ⌜ Narrow d × (16 ≤ d .reclen) × (d .reclen ≤ 4096) × (4 * d .reclen ≤ length (now file)) ⌝ }
     ensures { λ _. ⌜ Leaves (writes (now (file .entry)) (growthWrites d)) (now (file .exit)) ⌝ }
 {
     put_field4(file, first_record::LEX1, d.lex1);

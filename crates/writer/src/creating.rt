@@ -8,9 +8,9 @@ use fields::put_settings;
 ghost use Prim.Native.Nat.{_*_, _≤_};
 ghost use lib.ListN.{length};
 ghost use Rattle.outcome.specs.Outcome.{Answers, Leaves};
+ghost use Rattle.descriptor.specs.Bounds.{Narrow};
 ghost use Rattle.fields.specs.FieldWrites.{firstWritten};
 ghost use Rattle.writer.specs.Creation.{creationRefusal, Creates};
-ghost use Rattle.fields.specs.Bounds.{Storable};
 
 // The refusal of a creation with these numbers: 1, then 3 to 8.
 fn creation_refusal(bytes: u64, settings: Settings) -> u32
@@ -24,7 +24,7 @@ fn creation_refusal(bytes: u64, settings: Settings) -> u32
 
 // Writes the first record of a new file.
 fn put_first(file: &mut [u8], d: DescriptorNumbers)
-    requires { ⌜ Storable d × (16 ≤ d .reclen) × (d .reclen ≤ 4096) × (4 * d .reclen ≤ length (now file)) ⌝ }
+    requires { ⌜ Narrow d × (16 ≤ d .reclen) × (d .reclen ≤ 4096) × (4 * d .reclen ≤ length (now file)) ⌝ }
     ensures { λ _. ⌜ Leaves (firstWritten (now (file .entry)) d) (now (file .exit)) ⌝ }
 {
     put_settings(file, d);

@@ -23,12 +23,11 @@ use Rattle.layout.specs.FirstRecordWords.{fileCode, reclenWord, kindWord, vindW
 use Rattle.descriptor.specs.FirstRecord.{fileCodeOf, field4, field8, numbersOf, createdOf, addressesOf, freeOf}
 use Rattle.descriptor.specs.Areas.{areaAfter, areasStart, areasEnd}
 use Rattle.descriptor.specs.Rules.{settingRules, settingRefusal, creationRules, entriesFit}
-use Rattle.descriptor.specs.Bounds.{Admitted}
+use Rattle.descriptor.specs.Bounds.{Narrow, Admitted}
 use Rattle.descriptor.proofs.Refusals.{refusal-none, all-hold}
 use Rattle.descriptor.proofs.Passed.{settled, lent}
 use Rattle.fields.specs.FieldWrites.{settingWrites, countWrites, growthWrites, firstWritten}
 use Rattle.writer.specs.Creation.{creationRefusal, createdFile}
-use Rattle.fields.specs.Bounds.{Storable}
 use Rattle.writer.proofs.Created.{created-fits}
 use Rattle.descriptor.proofs.Admitting.{apt, validated}
 use Rattle.written.proofs.ReadBack.{Validates}
@@ -103,7 +102,7 @@ module _ (file : List ℕ) (d : DescriptorNumbers) where
         ap (λ (g : List ℕ). bitsAt w g at) first-one ∙ bits-follow w file 0 (firstWrites d) (first-follows d) k at u e f (omega arith)
 
     -- all of them
-    numbers-first : Storable d → d .xnext .0 < 2 ^ 64 → d .nextrec .0 < 2 ^ 64 → numbersOf (firstWritten file d) ≡ d
+    numbers-first : Narrow d → d .xnext .0 < 2 ^ 64 → d .nextrec .0 < 2 ^ 64 → numbersOf (firstWritten file d) ≡ d
     unfolding numbersOf field4 field8
     numbers-first t x r =
         rw (

@@ -8,19 +8,19 @@ use mir.Syntax.{w64}
 use Rattle.words.specs.Word.{signedOf}
 use Rattle.words.specs.Range.{atLeast}
 use Rattle.words.proofs.Ranges.{atLeast-bounds}
-use Rattle.words.proofs.Runs.{run-next, run-failed}
+use Rattle.words.proofs.Runs.{Passing, passing-next, passing-failed, passing-all}
 use Rattle.geometry.specs.declared.units.RecordNumber.{RecordNumber}
 use Rattle.geometry.specs.Growth.{capacityOf}
 use Rattle.geometry.specs.Area.{areaRecords}
 use Rattle.descriptor.specs.FirstRecord.{growthIn, aexOf}
 use Rattle.descriptor.specs.Areas.{areaAfter, areasStart}
-use Rattle.descriptor.proofs.Tests.{holds, broken}
+use Rattle.descriptor.proofs.Tests.{holds}
 use Rattle.descriptor.proofs.AreaOrder.{record-none, record-next, starts-none, starts-run, area-small, capacity-asks, area-asks}
 use Rattle.descriptor.proofs.areas.areas_start.Statement.{statement}
 use Rattle.descriptor.proofs.areas.areas_start.Tie as tie
 
 abbrev Inv-loop : tie.InvT-loop
-Inv-loop d addresses growth after₀ passed₀ after passed = (passed ≤ d .nex) × (after ≡ areaAfter d addresses passed) × (areasStart d addresses passed ≡ true)
+Inv-loop d addresses growth after₀ passed₀ after passed = Passing (areasStart d addresses) (d .nex) passed × (after ≡ areaAfter d addresses passed)
 
 abbrev μ-loop : tie.MeasureT-loop
 μ-loop d addresses growth after₀ passed₀ after passed = d .nex - passed
@@ -39,7 +39,9 @@ own-loop c = at-loop (c .before .before .before)
 test : (c : tie.After-at-least8 Inv-loop μ-loop) → let l = at-loop (c .before) in
     let a = start l .args in
     c .at-least8 .result ≡ atLeast (areaAfter (a .d) (a .addresses) (l .loop .passed) .0) (signedOf w64 (aexOf (a .addresses) (l .loop .passed + 1) .0))
-test c = rw (c .before .aex .ensures, at-loop (c .before) .loop .inv .1) at (c .at-least8 .ensures)
+test c =
+    c .at-least8 .ensures ∙ ap (λ (first : RecordNumber). atLeast (at-loop (c .before) .loop .after .0) (signedOf w64 (first .0))) (c .before .aex .ensures)
+    ∙ ap (λ (after : RecordNumber). atLeast (after .0) (signedOf w64 (aexOf (start (at-loop (c .before)) .args .addresses) (at-loop (c .before) .loop .passed + 1) .0))) (at-loop (c .before) .loop .inv .1)
 
 -- the capacity of the next extension
 own : (c : tie.After-capacity Inv-loop μ-loop) → c .capacity .result ≡ capacityOf (growthIn (start (own-loop c) .args .d)) (own-loop c .loop .passed + 1)
@@ -57,11 +59,11 @@ areas-start-spec =
     Inv-loop
     μ-loop
     (λ c κs. search needs)
-    (λ c. (omega arith, sym (record-none _ _), starts-none _ _))
+    (λ c. (record { few = omega arith; so-far = starts-none _ _ }, sym (record-none _ _)))
     (λ c. omega arith)
     (λ c κs. omega arith)
     (λ c κs. search needs)
-    (λ c. let l = at-loop (c .before .before) in sym (run-failed (starts-run _ _) (l .loop .passed) _ (omega arith) (broken (test (c .before)) (c .if2 .taken))))
+    (λ c. let l = at-loop (c .before .before) in passing-failed (starts-run _ _) (l .loop .inv .0) (omega arith) (test (c .before)) (c .if2 .taken))
     (λ c κs. let l = at-loop (c .before .before) in capacity-asks (start l .args .d) (l .loop .passed + 1) (start l .pre) (omega arith) (omega arith) (l .before .new .ensures))
     (λ c κs. let l = own-loop c in area-asks (start l .args .d) (l .loop .passed + 1) (start l .pre) (omega arith) (omega arith) (own c))
     (λ c.
@@ -78,11 +80,7 @@ areas-start-spec =
     let r = c .before in
     let l = own-loop (r .before) in
     let tested = r .before .before .before in (
-      omega arith,
+      passing-next (starts-run _ _) (l .loop .inv .0) (omega arith) (test tested) (r .before .before .if2 .left),
       rw (tested .before .aex .ensures, records r) (sym (record-next _ _ (l .loop .passed))),
-      run-next (starts-run _ _) (l .loop .passed) (l .loop .inv .2) ∙ holds (test tested) (r .before .before .if2 .left),
     ))
-    (λ c.
-    let l = c .before .before in
-    let e : l .loop .passed ≡ start l .args .d .nex = omega arith in
-    sym (rw e at (l .loop .inv .2))))
+    (λ c. passing-all (c .before .before .loop .inv .0) (omega arith)))
