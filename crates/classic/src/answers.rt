@@ -1,4 +1,5 @@
 // The answers and the settings as C has them. The fields are those of include/classic.h, in its order.
+use layout::entry_descriptor::PLACES;
 
 // A file's descriptor: the refusal, 0 when it is admitted; its numbers; and the first record of each
 // index area, zero past nex.
@@ -41,9 +42,9 @@ pub struct ClassicEntry {
     pub nword: u64,
     pub adata: i64,
     pub ldata: u64,
-    pub ids: [i32; 64],
-    pub lengths: [u64; 64],
-    pub addresses: [u64; 64],
+    pub ids: [i32; PLACES],
+    pub lengths: [u64; PLACES],
+    pub addresses: [u64; PLACES],
 }
 
 // A part of the lent file: the refusal, and its start and length in bytes.

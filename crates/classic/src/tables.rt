@@ -1,6 +1,7 @@
 // Tables of records and of addresses as tables of plain numbers.
 use geometry::EntryAddress;
 use geometry::RecordNumber;
+use layout::entry_descriptor::PLACES;
 ghost use Rattle.outcome.specs.Outcome.{Answers};
 ghost use Rattle.classic.specs.Answers.{recordNumbers, entryAddresses};
 
@@ -18,13 +19,13 @@ pub(crate) fn record_numbers(table: [RecordNumber; 16]) -> [u64; 16]
     numbers
 }
 
-// The numbers of 64 addresses of an entry.
-pub(crate) fn entry_addresses(table: [EntryAddress; 64]) -> [u64; 64]
+// The numbers of the addresses in an entry's table.
+pub(crate) fn entry_addresses(table: [EntryAddress; PLACES]) -> [u64; PLACES]
     ensures { λ r. ⌜ Answers (entryAddresses table) r ⌝ }
 {
-    let mut numbers = [0u64; 64];
+    let mut numbers = [0u64; PLACES];
     let mut filled = 0;
-    while filled < 64 {
+    while filled < PLACES {
         let here = table[filled];
         numbers[filled] = here.0;
         filled += 1;

@@ -28,7 +28,7 @@ pub const HEAD_WORDS: u64 = 11;
 pub const SECTIONS_MAX: u64 = 64;
 
 // How many places the tables of an opened entry have.
-pub const PLACES: usize = 64;
+pub const PLACES: usize = SECTIONS_MAX as usize;
 
 // The word where the identifier of section `i` stands, counted from 0.
 pub fn identifier_word(i: u64) -> EntryAddress

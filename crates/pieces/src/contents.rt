@@ -13,6 +13,7 @@ ghost use mathlib.Core.Bool.{true};
 ghost use Prim.Native.Nat.{_+_, _*_, _^_, _≤_, _<_};
 ghost use lib.ListN.{length};
 ghost use Rattle.outcome.specs.Outcome.{Answers};
+ghost use Rattle.layout.specs.EntryWords.{sectionsMax};
 ghost use Rattle.pieces.specs.EntryDescriptor.{word4, word8, sectionOf};
 ghost use Rattle.pieces.specs.Contents.{pieceWithin, dataWithin, sectionsWithin, apart, apartFrom, sectionsApart, dataApart};
 ghost use Rattle.pieces.specs.Bounds.{Described, Small};
@@ -52,7 +53,7 @@ pub fn section_at(file: &[u8], start: u64, nsec: u64, i: u64) -> Piece
 
 // Whether a piece lies within the words that content may have.
 fn piece_within(nsec: u64, nword: u64, piece: Piece) -> bool
-    requires { ⌜ (nsec ≤ 64) × (nword < 2 ^ 32) × (piece .words < 2 ^ 63) ⌝ }
+    requires { ⌜ (nsec ≤ sectionsMax) × (nword < 2 ^ 32) × (piece .words < 2 ^ 63) ⌝ }
     ensures { λ r. ⌜ Answers (pieceWithin nsec nword piece) r ⌝ }
 {
     if !words::at_least8(piece.address.0, first_content(nsec).0) {
@@ -63,7 +64,7 @@ fn piece_within(nsec: u64, nword: u64, piece: Piece) -> bool
 
 // The same of the data, where there is any.
 pub fn data_within(nsec: u64, nword: u64, piece: Piece) -> bool
-    requires { ⌜ (nsec ≤ 64) × (nword < 2 ^ 32) × (piece .words < 2 ^ 63) ⌝ }
+    requires { ⌜ (nsec ≤ sectionsMax) × (nword < 2 ^ 32) × (piece .words < 2 ^ 63) ⌝ }
     ensures { λ r. ⌜ Answers (dataWithin nsec nword piece) r ⌝ }
 {
     if piece.words == 0 {
