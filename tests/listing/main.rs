@@ -24,6 +24,7 @@ use cases::PLAN;
 use std::collections::BTreeMap;
 use std::fs;
 use std::process::{exit, Command};
+use std::thread::{available_parallelism, scope};
 
 /// Where the input of the program is put.
 const FOLDER: &str = "target/listing";
@@ -58,6 +59,14 @@ struct Given {
     ended_well: bool,
 }
 
+/// An input of a kind of PLAN, with the listing that 01 has of it and what the program gave.
+struct Tried {
+    kind: usize,
+    input: Vec<u8>,
+    expected: String,
+    given: Given,
+}
+
 impl Comparison {
     /// Compares every case, or the one that is asked for.
     fn run(&mut self) -> std::io::Result<()> {
@@ -65,27 +74,51 @@ impl Comparison {
             Some(case) => case..case + 1,
             None => 0..cases::count(),
         };
-        for case in chosen {
-            let (kind, input) = cases::input(self.options.seed, case);
-            let expected = listing::listing(&input);
-            let given = self.list(&input)?;
-            self.compared[kind] += 1;
-            if given.listing != expected || !given.ended_well || !given.said.is_empty() {
-                self.differing[kind] += 1;
-                self.show(case, kind, &expected, &given);
+        let chosen: Vec<usize> = chosen.collect();
+        for together in chosen.chunks(available_parallelism()?.get()) {
+            for (case, tried) in together.iter().zip(self.try_together(together)) {
+                self.judge_case(*case, tried?)?;
             }
-            self.keep(case, &input, &expected, &given)?;
-            self.count_lines(&input, &expected);
         }
         Ok(())
     }
 
-    /// Runs the program on an input.
-    fn list(&self, input: &[u8]) -> std::io::Result<Given> {
-        let name = format!("{FOLDER}/input");
+    /// Tries cases at one time, each on a processor of its own, and gives them in their order.
+    fn try_together(&self, together: &[usize]) -> Vec<std::io::Result<Tried>> {
+        scope(|scope| {
+            let begun: Vec<_> = together.iter().map(|case| scope.spawn(|| self.try_case(*case))).collect();
+            begun.into_iter().map(|tried| tried.join().expect("a case ends")).collect()
+        })
+    }
+
+    /// Lists the input of a case by 01 and by the program.
+    fn try_case(&self, case: usize) -> std::io::Result<Tried> {
+        let (kind, input) = cases::input(self.options.seed, case);
+        let expected = listing::listing(&input);
+        let given = self.list(case, &input)?;
+        Ok(Tried { kind, input, expected, given })
+    }
+
+    /// Counts a case that was tried, and shows it where the listings differ.
+    fn judge_case(&mut self, case: usize, tried: Tried) -> std::io::Result<()> {
+        let Tried { kind, input, expected, given } = tried;
+        self.compared[kind] += 1;
+        if given.listing != expected || !given.ended_well || !given.said.is_empty() {
+            self.differing[kind] += 1;
+            self.show(case, kind, &expected, &given);
+        }
+        self.keep(case, &input, &expected, &given)?;
+        self.count_lines(&input, &expected);
+        Ok(())
+    }
+
+    /// Runs the program on the input of a case.
+    fn list(&self, case: usize, input: &[u8]) -> std::io::Result<Given> {
+        let name = format!("{FOLDER}/input-{case}");
         fs::write(&name, input)?;
         let program = &self.options.program;
         let output = Command::new(&program[0]).args(&program[1..]).stdin(fs::File::open(&name)?).output()?;
+        fs::remove_file(&name)?;
         Ok(Given {
             listing: String::from_utf8_lossy(&output.stdout).into_owned(),
             said: String::from_utf8_lossy(&output.stderr).into_owned(),
