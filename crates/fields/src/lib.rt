@@ -7,13 +7,14 @@ use geometry::WordNumber;
 use geometry::byte_offset;
 use geometry::first_record_offset;
 use layout::first_record;
-ghost use Prim.Native.Nat.{_+_, _*_, _^_, _≤_, _<_};
+ghost use Prim.Native.Nat.{_+_, _*_, _-_, _^_, _≤_, _<_};
 ghost use lib.ListN.{length};
 ghost use Rattle.outcome.specs.Outcome.{Leaves};
-ghost use Rattle.image.specs.Image.{splice};
+ghost use Rattle.image.specs.Image.{splice, zeros};
 ghost use Rattle.image.specs.Writes.{writes};
 ghost use Rattle.words.specs.Word.{numeral};
-ghost use Rattle.geometry.specs.Units.{firstRecordOffsetOf};
+ghost use Rattle.geometry.specs.Units.{offsetOf, firstRecordOffsetOf};
+ghost use Rattle.layout.specs.FirstRecordWords.{aexWord};
 ghost use Rattle.descriptor.specs.Bounds.{Narrow};
 ghost use Rattle.fields.specs.FieldWrites.{settingWrites, countWrites, growthWrites};
 
@@ -57,6 +58,18 @@ pub fn put_counts(file: &mut [u8], d: DescriptorNumbers)
     put_field4(file, first_record::NEXTWORD, d.nextword.0);
 }
 
+// Makes the words of the first record behind the growth zero.
+fn clear_rest(file: &mut [u8], reclen: u64)
+    requires { ⌜ (16 ≤ reclen) × (reclen ≤ 4096) × (4 * reclen ≤ length (now file)) ⌝ }
+    ensures { λ _. ⌜ Leaves (splice (now (file .entry)) (firstRecordOffsetOf (aexWord 0)) (zeros (offsetOf (reclen - 14)))) (now (file .exit)) ⌝ }
+{
+    image::zero(
+        file,
+        first_record_offset(first_record::AEX),
+        byte_offset(reclen - 14),
+    )
+}
+
 // Writes the growth, and zeros from there to the record's end.
 pub fn put_growth(file: &mut [u8], d: DescriptorNumbers)
     requires { ⌜ Narrow d × (16 ≤ d .reclen) × (d .reclen ≤ 4096) × (4 * d .reclen ≤ length (now file)) ⌝ }
@@ -65,9 +78,5 @@ pub fn put_growth(file: &mut [u8], d: DescriptorNumbers)
     put_field4(file, first_record::LEX1, d.lex1);
     put_field4(file, first_record::NEX, d.nex);
     put_field4(file, first_record::GEX, d.gex);
-    image::zero(
-        file,
-        first_record_offset(first_record::AEX),
-        byte_offset(d.reclen - 14),
-    );
+    clear_rest(file, d.reclen);
 }
