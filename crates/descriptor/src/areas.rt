@@ -3,13 +3,13 @@ use super::inner::aex;
 use super::inner::area_after;
 use super::inner::free_position;
 use super::numbers::DescriptorNumbers;
-use geometry::ExtensionNumber;
 use geometry::Growth;
 use geometry::RecordNumber;
 use geometry::WordNumber;
 use geometry::area_records;
-use geometry::capacity;
 use geometry::position_within;
+use geometry::walk_begun;
+use geometry::walk_on;
 ghost use mathlib.Core.Path.{_≡_};
 ghost use mathlib.Core.Bool.{true};
 ghost use Prim.Native.Nat.{_^_, _<_};
@@ -25,16 +25,15 @@ pub(crate) fn areas_start(d: DescriptorNumbers, addresses: [RecordNumber; 16]) -
 {
     let growth = Growth::new(d.lex1, d.gex);
     let mut after = RecordNumber(2);
-    let mut passed = 0;
-    while passed < d.nex {
-        let extension = ExtensionNumber(passed + 1);
+    let mut walk = walk_begun(growth);
+    while walk.extension.0 <= d.nex {
+        let extension = walk.extension;
         let first = aex(addresses, extension);
         if !words::at_least8(first.0, after.0) {
             return false;
         }
-        let records = area_records(capacity(growth, extension), d.lind, d.reclen);
-        after = RecordNumber(first.0 + records);
-        passed += 1;
+        after = RecordNumber(first.0 + area_records(walk.capacity, d.lind, d.reclen));
+        walk = walk_on(growth, walk);
     }
     true
 }

@@ -3,13 +3,14 @@ use super::areas::areas_end;
 use super::areas::areas_start;
 use super::inner::mex;
 use super::numbers::DescriptorNumbers;
+use geometry::ExtensionNumber;
 use geometry::Growth;
 use geometry::RecordNumber;
 use geometry::byte_offset;
 use geometry::entries_before;
 use geometry::first_record_offset;
 use geometry::position_within;
-use geometry::total;
+use geometry::walk_to;
 use layout::first_record;
 ghost use Prim.Native.Nat.{_≤_};
 ghost use lib.ListN.{length};
@@ -102,10 +103,11 @@ fn entries_fit(growth: Growth, nex: u64, n: u64) -> bool
     if nex == 0 {
         return n == 0;
     }
-    if total(growth, nex) < n {
+    let walk = walk_to(growth, ExtensionNumber(nex));
+    if walk.before + walk.capacity < n {
         return false;
     }
-    total(growth, nex - 1) < n
+    walk.before < n
 }
 
 // Rules 9 to 11, on settled numbers, the addresses and the count of bytes lent: the first that is

@@ -1,9 +1,9 @@
 -- Laws of the capacities for all callers: they stay within the limit and never shrink, and their totals rise. Assumes nothing.
 use mathlib.Core.Path.{_≡_, refl, sym, ap, _∙_}
 use mathlib.Core.Bool.{Bool, true, false, _||_}
-use Prim.Native.Nat.{ℕ, zero, suc, _+_, _*_, _-_, _≤_, _<_}
+use Prim.Native.Nat.{ℕ, zero, suc, _+_, _*_, _-_, _/_, _^_, _≤_, _<_}
 use native.Mathlib.Omega.{arith}
-use native.Mathlib.Nat.{mul-le-mul-left, lt-of-not-le}
+use native.Mathlib.Nat.{mul-assoc, mul-le-mul, mul-one, div-one, pow-zero, pow-suc, one-le-pow, div-mul-le-self, le-div-iff-mul-le, lt-of-not-le}
 use native.Mathlib.Decide.{decLe, le-ind}
 use native.Mathlib.Numerals.{add-one}
 use mathlib.Mathlib.Data.Bool.Basic.{or-eq-false-eq-eq-false-and-eq-false}
@@ -11,15 +11,19 @@ use borrow.Author.Tests.{ltb-false}
 use lib.Dec.{ltb}
 use Rattle.outcome.proofs.Either.{either}
 use Rattle.geometry.specs.declared.growth.Growth.{Growth}
-use Rattle.geometry.specs.Growth.{capacityOf, totalOf, overOf}
-use Rattle.geometry.proofs.Steps.{capacity-step, over-step}
+use Rattle.geometry.specs.Growth.{capacityOf, totalOf, overOf, Growing}
 
 module _ (g : Growth) where
+  -- one extension more passes the limit where those before it do, or it does itself
+  over-step : (k : ℕ) → overOf g (k + 1) ≡ overOf g k || ltb 16384 (capacityOf g (k + 1))
+  unfolding overOf
+  over-step k = rw add-one
+
   -- where the first n capacities are within the limit, fewer are
   pub over-fewer : (k n : ℕ) → k ≤ n → overOf g n ≡ false → overOf g k ≡ false
   over-fewer k n h e =
       le-ind (λ i. overOf g i ≡ false → overOf g k ≡ false) (λ q. q)
-      (λ i l f q. f (or-eq-false-eq-eq-false-and-eq-false (overOf g i) _ .0 (sym (over-step g i) ∙ ap (overOf g) (add-one i) ∙ q) .0)) n h e
+      (λ i l f q. f (or-eq-false-eq-eq-false-and-eq-false (overOf g i) _ .0 (sym (over-step i) ∙ ap (overOf g) (add-one i) ∙ q) .0)) n h e
 
   -- where they are not, more are not
   pub over-more : (k n : ℕ) → k ≤ n → overOf g k ≡ true → overOf g n ≡ true
@@ -27,7 +31,20 @@ module _ (g : Growth) where
 
   -- with those before it within the limit, one more is over it by its own capacity alone
   pub over-next : (k : ℕ) → overOf g k ≡ false → overOf g (k + 1) ≡ ltb 16384 (capacityOf g (k + 1))
-  over-next k e = over-step g k ∙ ap (λ (b : Bool). b || ltb 16384 (capacityOf g (k + 1))) e
+  over-next k e = over-step k ∙ ap (λ (b : Bool). b || ltb 16384 (capacityOf g (k + 1))) e
+
+  -- no extension is over the limit where there is none
+  pub over-none : overOf g 0 ≡ false
+  unfolding overOf
+  over-none = refl
+
+  -- the last of the extensions is over the limit by its own capacity alone
+  pub over-last : (k : ℕ) → 1 ≤ k → overOf g (k - 1) ≡ false → overOf g k ≡ ltb 16384 (capacityOf g k)
+  over-last k h e = let q : k - 1 + 1 ≡ k = omega arith in (rw q at (over-next (k - 1) e))
+
+  -- what the code asks of n extensions it has of fewer
+  pub growing-fewer : (k n : ℕ) → k ≤ n → Growing g n → Growing g k
+  growing-fewer k n h p = record { lex1-high = p .lex1-high; gex-high = p .gex-high; within = over-fewer k n h (p .within) }
 
   -- each capacity within the limit is at most 16,384
   pub capacity-limit : (k n : ℕ) → 1 ≤ k → k ≤ n → overOf g n ≡ false → capacityOf g k ≤ 16384
@@ -64,11 +81,23 @@ module _ (g : Growth) where
   total-limit zero n h e = omega arith
   total-limit (suc k) n h e = omega (arith, total-limit k n (omega arith) e, capacity-limit (suc k) n (omega arith) h e)
 
+  -- the first extension holds lex1 entries
+  pub capacity-first : capacityOf g 1 ≡ g .lex1
+  unfolding capacityOf
+  capacity-first = rw (pow-zero, mul-one, div-one)
+
   -- a growth that the rules admit never shrinks
   module _ (lex1-low : 1 ≤ g .lex1) (gex-low : 10 ≤ g .gex) where
     -- a capacity is no smaller than the one before it
     pub capacity-rise : (k : ℕ) → 1 ≤ k → capacityOf g k ≤ capacityOf g (k + 1)
-    capacity-rise k h = rw (capacity-step g k h) (omega (arith, mul-le-mul-left (capacityOf g k) gex-low))
+    unfolding capacityOf
+    capacity-rise zero h = absurd (omega arith)
+    capacity-rise (suc k) h =
+        let p = g .lex1 * g .gex ^ k in
+        let less : p / 10 ^ k * 10 ^ k * 10 ≤ p * g .gex = mul-le-mul (div-mul-le-self p (10 ^ k)) gex-low in
+        let power : g .lex1 * g .gex ^ suc k ≡ p * g .gex = rw pow-suc (sym (mul-assoc (g .lex1) (g .gex ^ k) (g .gex))) in
+        let tens : p / 10 ^ k * 10 ^ suc k ≡ p / 10 ^ k * 10 ^ k * 10 = rw pow-suc (sym (mul-assoc (p / 10 ^ k) (10 ^ k) 10)) in
+        rw add-one (le-div-iff-mul-le {k = 10 ^ suc k} (one-le-pow (suc k) 10 (omega arith)) .1 (omega arith))
 
     -- nor than any before it
     pub capacity-le : (k n : ℕ) → 1 ≤ k → k ≤ n → capacityOf g k ≤ capacityOf g n
@@ -77,5 +106,4 @@ module _ (g : Growth) where
 
     -- each extension has room for an entry
     pub capacity-some : (k : ℕ) → 1 ≤ k → 1 ≤ capacityOf g k
-    unfolding capacityOf
-    capacity-some k h = omega (arith, capacity-le 1 k (omega arith) h)
+    capacity-some k h = omega (arith, capacity-first, capacity-le 1 k (omega arith) h)

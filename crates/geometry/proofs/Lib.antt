@@ -1,5 +1,6 @@
--- The laws of `geometry` that later layers cite. The step from a capacity to the next stays inside, in Steps.
-mod Steps
+-- The laws of `geometry` that later layers cite, and the theorem on gex 10 and 20.
 pub mod Positions
 pub mod Capacities
+pub mod Parts
 pub mod Slots
+pub mod WholeFactors

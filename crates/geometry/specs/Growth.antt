@@ -1,5 +1,5 @@
 -- The capacities of the extensions, in entries. Extensions are counted from 1.
-use Prim.Native.Nat.{ℕ, zero, suc, _+_, _*_, _/_, _≤_}
+use Prim.Native.Nat.{ℕ, zero, suc, _+_, _*_, _/_, _^_, _≤_}
 use mathlib.Core.Path.{_≡_}
 use mathlib.Core.Bool.{Bool, false, _||_}
 use lib.Dec.{ltb}
@@ -9,15 +9,10 @@ use Rattle.geometry.specs.declared.growth.Growth.{Growth}
 abbrev pub growthOf : ℕ → ℕ → Growth
 growthOf lex1 gex = record { lex1 = lex1; gex = gex }
 
--- the capacity that follows a capacity: times gex, divided by 10, the fraction dropped
-abbrev pub grownOf : Growth → ℕ → ℕ
-grownOf g capacity = capacity * g .gex / 10
-
--- the capacity of extension k: the first holds lex1 entries, each further one follows from the one before it. There is no extension 0
+-- the capacity of extension k (the memo's Eq. 1): lex1 × gex^(k-1) / 10^(k-1), the fraction dropped once. There is no extension 0
 unfoldable pub capacityOf : Growth → ℕ → ℕ
 capacityOf g zero = 0
-capacityOf g (suc zero) = g .lex1
-capacityOf g (suc (suc k)) = grownOf g (capacityOf g (suc k))
+capacityOf g (suc k) = g .lex1 * g .gex ^ k / 10 ^ k
 
 -- the first k capacities together
 unfoldable pub totalOf : Growth → ℕ → ℕ

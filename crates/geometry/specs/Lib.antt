@@ -1,4 +1,6 @@
 -- What the contracts of `geometry` cite.
 pub mod Units
 pub mod Growth
+pub mod Walk
+pub mod Stepwise
 pub mod Area

@@ -1,8 +1,9 @@
 // Index areas: how many records one takes, and where in it an entry has its slot.
 use super::growth::Growth;
-use super::growth::grown;
 use super::units::EntryNumber;
 use super::units::ExtensionNumber;
+use super::walk::walk_begun;
+use super::walk::walk_on;
 ghost use Prim.Native.Nat.{_+_, _^_, _≤_, _<_};
 ghost use Rattle.outcome.specs.Outcome.{Answers};
 ghost use Rattle.geometry.specs.Growth.{totalOf, Growing};
@@ -38,17 +39,14 @@ pub fn slot_of(growth: Growth, nex: u64, lind: u64, entry: EntryNumber) -> Slot
     ensures { λ r. ⌜ Answers (slotOf growth nex lind entry) r ⌝ }
 {
     let number = entry.0;
-    let mut extension = 1;
-    let mut before = 0;
-    let mut capacity = growth.lex1;
-    while before + capacity < number {
-        before += capacity;
-        capacity = grown(growth, capacity);
-        extension += 1;
+    let mut walk = walk_begun(growth);
+    while walk.before + walk.capacity < number {
+        walk = walk_on(growth, walk);
     }
-    let place = number - before;
+    let extension = walk.extension;
+    let place = number - walk.before;
     Slot {
-        extension: ExtensionNumber(extension),
+        extension,
         place,
         offset: (place - 1) * lind,
     }

@@ -6,15 +6,13 @@
 mod area;
 mod growth;
 mod units;
+mod walk;
 
 pub use area::Slot;
 pub use area::area_records;
 pub use area::records_for;
 pub use area::slot_of;
 pub use growth::Growth;
-pub use growth::capacity;
-pub use growth::over;
-pub use growth::total;
 pub use units::EntryAddress;
 pub use units::EntryNumber;
 pub use units::ExtensionNumber;
@@ -30,3 +28,10 @@ pub use units::place_at;
 pub use units::position;
 pub use units::position_within;
 pub use units::table_index;
+pub use walk::Walk;
+pub use walk::capacity;
+pub use walk::over;
+pub use walk::total;
+pub use walk::walk_begun;
+pub use walk::walk_on;
+pub use walk::walk_to;

@@ -1,4 +1,4 @@
--- The examples that 01 works by hand, P1 to P12, hold of the definitions: by computing. Assumes nothing.
+-- The examples that 01 works by hand, P1 to P12, and those of the requests hold of the definitions: by computing. Assumes nothing.
 use mathlib.Core.Path.{refl}
 use Rattle.image.specs.Image.{part, splice, zeros}
 use Rattle.words.specs.Word.{number, numeral, bitsAt}
@@ -26,6 +26,7 @@ use Rattle.storing.specs.Writing.{headFrom, areaWritten, entryWritten, indexWri
 use Rattle.writer.specs.Answers.{appendedFrom, fileFrom, appendIn, fileIn}
 use Rattle.promises.specs.FileA.{A}
 use Rattle.promises.specs.Examples.{AllMatch, examples, entry, withSection, withoutSection, Differ}
+use Rattle.promises.specs.RequestExamples.{requestExamples}
 
 -- a row's proof and those of the rows behind it
 infixr 60 _&_
@@ -73,6 +74,14 @@ worked-examples =
     refl & refl & refl & refl &
     -- P12
     refl &
+    record {}
+
+-- every row of the table of the requests
+pub request-examples : AllMatch requestExamples
+unfolding requestExamples seen
+request-examples =
+    -- Q-2
+    refl & refl & refl & refl & refl & refl & refl & refl &
     record {}
 
 -- the first entries of two files differ

@@ -33,14 +33,16 @@ use Rattle.promises.specs.Calls.{following}
 use Rattle.promises.specs.FileA.{settings, append2, append3, created, after1, after2, A, twoSections}
 use Rattle.promises.specs.ByHand.{wordsAt, word, twoWords, zeroWords, firstRecord, entryHead, slot}
 
--- a row of the table: P of its number, what is found, what is expected
+-- a row of a table: P of its number, or Q of the number of a request; what is found, what is expected
 pub data Row : Type 1 where
   P : {A : Type 0} → (label : ℕ) → (found expected : A) → Row
+  Q : {A : Type 0} → (label : ℕ) → (found expected : A) → Row
 
 -- every row finds what is expected of it
 abbrev pub AllMatch : List Row → Type 0
 AllMatch [] = Unit
 AllMatch (P label found expected ∷ rows) = (found ≡ expected) × AllMatch rows
+AllMatch (Q label found expected ∷ rows) = (found ≡ expected) × AllMatch rows
 
 -- ---- numbers with their units
 
@@ -199,8 +201,8 @@ examples =
     P 6 (slotOf (growthIn crossing) 1 5 (entry 4) .offset) 15 ∷
     P 6 (placeOf 16 (slotPositionOf crossing (aex 2 ∷ []) (entry 4))) (at 2 16) ∷
     P 6 (placeOf 16 (slotPositionOf crossing (aex 2 ∷ []) (entry 4) + 4)) (at 3 4) ∷
-    -- lex1 5, gex 15: 5, 7, 10, 15
-    P 7 (map (capacityOf (growthOf 5 15)) (1 ∷ 2 ∷ 3 ∷ 4 ∷ [])) (5 ∷ 7 ∷ 10 ∷ 15 ∷ []) ∷
+    -- lex1 5, gex 15: 5, 7, 11, 16, as 02 has it
+    P 7 (map (capacityOf (growthOf 5 15)) (1 ∷ 2 ∷ 3 ∷ 4 ∷ [])) (5 ∷ 7 ∷ 11 ∷ 16 ∷ []) ∷
     -- reclen 22, lex1 4,096, gex 20: nex 3 admitted, nex 4 gives 8
     P 8 (numbersRefusal (offsetOf (22 * 5215)) (grown 3) areas3) 0 ∷
     P 8 (numbersRefusal (offsetOf (22 * 5215)) (grown 4) areas3) 8 ∷

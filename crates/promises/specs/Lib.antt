@@ -1,4 +1,4 @@
--- What the theorems of `promises` speak of: the contents of a file, a series of calls, the regions of a file, the tests of each call, demand 3, and the table of worked examples.
+-- What the theorems of `promises` speak of: the contents of a file, a series of calls, the regions of a file, the tests of each call, demand 3, and the tables of worked examples.
 pub mod Contents
 pub mod Calls
 pub mod Regions
@@ -8,3 +8,4 @@ pub mod Demand
 pub mod FileA
 pub mod ByHand
 pub mod Examples
+pub mod RequestExamples
