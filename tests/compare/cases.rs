@@ -4,18 +4,19 @@
 use crate::additions::{addition, spoil};
 use crate::damage::{edges, fields, random_damage, Field};
 use crate::examples::examples;
-use crate::files::{self, make, make_full, together, Made, Shape};
+use crate::files::{self, area_words, make, make_full, put_bare, together, Made, Shape};
 use crate::random::Random;
 use crate::reference::{self, Addition, Settings};
 use crate::script::{Call, Script};
 
 /// How many cases there are of each kind, one kind after another.
-const PLAN: [(usize, fn(&mut Random, &mut Script)); 11] = [
+const PLAN: [(usize, fn(&mut Random, &mut Script)); 12] = [
     (1, examples),
     (24, every_edge),
     (6, last_of_64),
     (4, great_lengths),
     (20, great_numbers),
+    (33, growths),
     (120, cut_and_grown),
     (2000, damaged),
     (800, whole),
@@ -206,11 +207,77 @@ fn great_numbers(random: &mut Random, script: &mut Script) {
         script.call(Call::Open(xnext as u64 - 1));
     }
     for (nex, entries) in [(extensions + 1, entries + 1), (extensions - 1, entries)] {
-        script.again();
-        script.poke(4 * 12, &(nex as i32).to_le_bytes());
-        script.poke(4 * 6, &(entries as i64 + 1).to_le_bytes());
+        recount(script, nex, entries);
         all_readings(random, script, &made, entries as u64);
     }
+}
+
+/// Files of each gex in turn whose last capacity comes close to 16,384, where the gex lets it: with the greatest lex1
+/// that is admitted, and with the next. Every second time they have as many extensions as they can.
+fn growths(random: &mut Random, script: &mut Script) {
+    let gex = 10 + (script.turn % 11) as i32;
+    let near: Vec<usize> = (2..=16).filter(|&k| (1..4095).contains(&greatest_lex1(gex, k))).collect();
+    let extensions = match near.last() {
+        None => 16,
+        Some(&last) if script.turn / 11 % 2 == 0 => last,
+        Some(_) => random.pick(&near),
+    };
+    let admitted = greatest_lex1(gex, extensions);
+    for lex1 in [admitted, admitted + 1] {
+        let (reclen, lind) = (random.pick(&[46, 47, 64, 128]), random.from(3, 4) as i32);
+        let settings = Settings { reclen, lind, lex1, gex, ..files::settings(random) };
+        try_growth(random, script, &settings, extensions);
+    }
+}
+
+/// The greatest lex1 below 4,096 with which extension k has at most 16,384 entries, 0 if there is none.
+fn greatest_lex1(gex: i32, k: usize) -> i32 {
+    let admits = |lex1: &i32| reference::capacity(*lex1 as i128, gex as i128, k as i128) <= 16384;
+    (1..4096).take_while(admits).count() as i32
+}
+
+/// Tries a file whose areas are full, with an entry in the first and the last place of each: as it is and with an
+/// extension more and fewer, each with the numbers of entries on both sides of what its extensions hold.
+fn try_growth(random: &mut Random, script: &mut Script, settings: &Settings, extensions: usize) {
+    let area = area_words(settings, extensions) / settings.reclen as usize;
+    let mut made = make_full(settings, extensions, random.pick(&[10, 30 + area]));
+    let held = |k: usize| together(settings, k);
+    let ends: Vec<usize> = (0..=extensions).flat_map(|k| [held(k), held(k) + 1]).collect();
+    ends[1..ends.len() - 1].iter().for_each(|&number| put_bare(&mut made, number));
+    script.lend(&made.bytes, made.bytes.len());
+    for nex in extensions - 1..=extensions + 1 {
+        for entries in [held(nex - 1), held(nex - 1) + 1, held(nex) - 1, held(nex), held(nex) + 1] {
+            recount(script, nex, entries);
+            if script.call(Call::Validate) != 0 {
+                script.call(reading(random, &made, entries as u64));
+                continue;
+            }
+            if entries == held(nex) {
+                read_at(script, &ends, nex);
+            }
+            script.call(Call::Append(addition(random, settings.lind)));
+            read_at(script, &[entries + 1], nex);
+        }
+    }
+}
+
+/// Makes the file what it was when it was lent, but for nex and the number of entries.
+fn recount(script: &mut Script, nex: usize, entries: usize) {
+    script.again();
+    script.poke(4 * 12, &(nex as i32).to_le_bytes());
+    script.poke(4 * 6, &(entries as i64 + 1).to_le_bytes());
+}
+
+/// Asks for each extension and one more, reads some entries, and checks the order.
+fn read_at(script: &mut Script, entries: &[usize], nex: usize) {
+    for k in 0..=nex as u64 + 1 {
+        script.call(Call::ExtensionOf(k));
+    }
+    for &entry in entries {
+        script.call(Call::Open(entry as u64));
+        script.call(Call::IndexWords(entry as u64));
+    }
+    script.call(Call::Check);
 }
 
 /// A file lent with other lengths than its own.

@@ -1,5 +1,5 @@
-//! The examples that document 01 works by hand, as the first case: the reference must give the numbers written here,
-//! and the library is compared with the reference.
+//! The examples that document 01 works by hand, with the capacities of Q-2 in document 02, as the first case: the
+//! reference must give the numbers written here, and the library is compared with the reference.
 
 use crate::files::make_full;
 use crate::random::Random;
@@ -46,7 +46,8 @@ pub fn examples(_: &mut Random, script: &mut Script) {
         expect(script, "P2", Call::IndexWords(2), &[0, 4 * (20 + 4 + 3), 4]);
     }
     crossing(script);
-    growth(script);
+    capacities(script);
+    great_capacities(script);
     limits(script);
 }
 
@@ -60,21 +61,44 @@ fn crossing(script: &mut Script) {
     expect(script, "P6", Call::IndexWords(4), &[0, 4 * (16 + 15 + 3), 8]);
 }
 
-/// P7 to P9: capacities.
-fn growth(script: &mut Script) {
-    let made = make_full(&settings(22, 3, 5, 15), 4, 0);
+/// Lends a file whose extensions, so many, are full.
+fn lend_full(script: &mut Script, settings: Settings, extensions: usize) {
+    let made = make_full(&settings, extensions, 0);
     script.lend(&made.bytes, made.bytes.len());
-    for (k, capacity) in (1..).zip([5, 7, 10, 15]) {
-        expect(script, "P7", Call::ExtensionOf(k), &[0, capacity]);
+}
+
+/// P7 and the capacities of Q-2, whose fraction is dropped once.
+fn capacities(script: &mut Script) {
+    let given: [(&str, Settings, &[u64]); 4] = [
+        ("P7", settings(22, 3, 5, 15), &[5, 7, 11, 16]),
+        ("Q-2", settings(24, 3, 1, 15), &[1, 1, 2, 3, 5]),
+        ("Q-2, gex 10", settings(24, 3, 7, 10), &[7, 7, 7, 7, 7]),
+        ("Q-2, gex 20", settings(24, 3, 3, 20), &[3, 6, 12, 24, 48]),
+    ];
+    for (example, settings, capacities) in given {
+        lend_full(script, settings, capacities.len());
+        for (k, &capacity) in (1..).zip(capacities) {
+            expect(script, example, Call::ExtensionOf(k), &[0, capacity]);
+        }
     }
-    let made = make_full(&settings(22, 3, 4096, 20), 3, 0);
-    script.lend(&made.bytes, made.bytes.len());
+}
+
+/// P8, P9 and Q-2 with capacities up to 16,384 and past it.
+fn great_capacities(script: &mut Script) {
+    lend_full(script, settings(22, 3, 4096, 20), 3);
     expect(script, "P8, nex 3", Call::Validate, &[0, 22]);
     script.poke(4 * 12, &[4, 0, 0, 0]);
     expect(script, "P8, nex 4", Call::Validate, &[8, 0]);
-    let made = make_full(&settings(46, 3, 4096, 10), 16, 0);
-    script.lend(&made.bytes, made.bytes.len());
+    lend_full(script, settings(46, 3, 4096, 10), 16);
     expect(script, "P9", Call::Validate, &[0, 46, 1, 2, 3, 0, 65537]);
+    lend_full(script, settings(46, 3, 1, 20), 15);
+    expect(script, "Q-2, gex 20, nex 15", Call::Validate, &[0, 46, 1, 2, 3, 0, 32768]);
+    expect(script, "Q-2, gex 20, nex 15", Call::ExtensionOf(15), &[0, 16384]);
+    script.poke(4 * 12, &[16, 0, 0, 0]);
+    expect(script, "Q-2, gex 20, nex 16", Call::Validate, &[8, 0]);
+    lend_full(script, settings(46, 3, 2, 18), 16);
+    expect(script, "Q-2, gex 18, nex 16", Call::Validate, &[0, 46, 1, 2, 3, 0, 30351]);
+    expect(script, "Q-2, gex 18, nex 16", Call::ExtensionOf(16), &[0, 13493]);
 }
 
 /// P10 to P12: reclen 15 and 16, lind 2 and 3, eight bytes FF.

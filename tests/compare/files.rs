@@ -187,6 +187,18 @@ pub fn make_full(settings: &Settings, extensions: usize, spare_records: usize) -
     made
 }
 
+/// Puts an entry without sections and data at the next free position of a file made full, and its index.
+pub fn put_bare(made: &mut Made, number: usize) {
+    let (start, reclen) = (made.free, made.reclen());
+    let slot = slot(&made.settings, &made.areas, number - 1);
+    put(&mut made.bytes, start, &ENTRY_CODE);
+    put(&mut made.bytes, start + 3, &11i64.to_le_bytes());
+    put(&mut made.bytes, start + 9, &(number as i64).to_le_bytes());
+    put(&mut made.bytes, slot, &place(start, reclen));
+    made.free = start + 11;
+    put(&mut made.bytes, 8, &place(made.free, reclen));
+}
+
 /// The blocks of a file: each area with its entries after it, or in a shuffled file the entries anywhere.
 fn blocks(random: &mut Random, shape: &Shape) -> Vec<Block> {
     let mut blocks = vec![];

@@ -1,5 +1,6 @@
-//! The independent implementation of document 01, plain and slow, over the lent bytes of a file: written from 01
-//! and the memo alone. Every number is an i128, so that no sum or product of stored numbers can wrap.
+//! The independent implementation of document 01, with the capacities of Q-2 in document 02, plain and slow, over the
+//! lent bytes of a file: written from these papers and the memo alone. Every number is an i128, so that no sum or
+//! product of stored numbers can wrap.
 
 pub const FILE_CODE: [u8; 4] = [0x32, 0x41, 0x20, 0x20];
 pub const ENTRY_CODE: [u8; 4] = [0x32, 0x20, 0x20, 0x20];
@@ -125,13 +126,10 @@ pub fn mex(reclen: i128) -> i128 {
     ((reclen - 14) / 2).min(16)
 }
 
-/// The capacity of extension k, counted from 1: lex1, then each from the one before it.
+/// The capacity of extension k, counted from 1: lex1 × gex^(k-1) / 10^(k-1) exactly, the fraction dropped once.
 pub fn capacity(lex1: i128, gex: i128, k: i128) -> i128 {
-    if k == 1 {
-        lex1
-    } else {
-        capacity(lex1, gex, k - 1) * gex / 10
-    }
+    let steps = (k - 1) as u32;
+    lex1 * gex.pow(steps) / 10i128.pow(steps)
 }
 
 impl Descriptor {

@@ -140,18 +140,23 @@ contains
     at = place(p%record, p%word + position - 1)
   end function at
 
+  ! The capacity of extension iex, Equation 1: lex1 * gex**(iex-1) / 10**(iex-1) exactly, the fraction dropped once.
+  pure function capacity_of(iex)
+    integer(8), intent(in) :: iex
+    integer(8) :: capacity_of
+    capacity_of = int(lex1 * int(gex, 16)**(iex - 1) / 10_16**(iex - 1), 8)
+  end function capacity_of
+
   ! Steps 5 to 7: the place of an entry's index.
   function index_of(ient) result(p)
     integer(8), intent(in) :: ient
     type(place) :: p
-    integer(8) :: capacity, jent, iex, offset
+    integer(8) :: jent, iex, offset
     if (ient < 1 .or. ient >= xnext) call give_up('the file has no entry of this number')
-    capacity = lex1
     jent = ient
     iex = 1
-    do while (jent > capacity)
-      jent = jent - capacity
-      capacity = capacity * gex / 10
+    do while (jent > capacity_of(iex))
+      jent = jent - capacity_of(iex)
       iex = iex + 1
     end do
     offset = (jent - 1) * lind

@@ -29,6 +29,8 @@ static const plan plans[] = {
     {"wide", {100, 1, 2, 256, 0, 2, 13}, 60, 5, 64, 15},
     {"fractions", {64, 2, 2, 6, 1, 5, 15}, 150, 30, 6, 50},
     {"odd", {127, 1, 2, 11, 0, 3, 11}, 60, 12, 20, 100},
+    {"ones", {40, 1, 2, 8, 0, 1, 15}, 60, 11, 4, 25},
+    {"eleven", {46, 2, 2, 5, 1, 1, 11}, 120, 27, 3, 20},
     {"large", {4096, 1, 2, 32, 0, 100, 20}, 12, 8, 64, 5000},
 };
 
@@ -136,14 +138,24 @@ static void tell_addition(const addition *a, int64_t entry) {
     tell(question, a->data, a->ldata);
 }
 
+/* The capacity of extension k, counted from 1: lex1 * gex^(k-1) / 10^(k-1) exactly, the fraction dropped once. */
+static int64_t capacity_of(int64_t k) {
+    unsigned __int128 product = (unsigned __int128)own->settings.lex1, divisor = 1;
+    for (int64_t i = 1; i < k; i++) {
+        product *= (unsigned __int128)own->settings.gex;
+        divisor *= 10;
+    }
+    return (int64_t)(product / divisor);
+}
+
 /* Works out where the entry goes and what its line of the listing is. */
 static void keep_books(const addition *a, int64_t entry) {
     int64_t reclen = own->settings.reclen, nword = 11 + 5 * a->nsec + a->section_words + a->ldata;
     if (used == capacity) {
-        capacity = entry == 1 ? own->settings.lex1 : capacity * own->settings.gex / 10;
-        used = 0;
         int64_t before = (free_word + reclen - 1) / reclen;
         areas[nex++] = before + 1;
+        capacity = capacity_of(nex);
+        used = 0;
         free_word = (before + (capacity * own->settings.lind + reclen - 1) / reclen) * reclen;
     }
     used++;

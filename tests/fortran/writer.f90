@@ -18,8 +18,11 @@ program writer
     integer(8) :: entries
     integer(4) :: most
   end type plan
-  type(plan), parameter :: plans(5) = [ &
+  type(plan), parameter :: plans(8) = [ &
     plan('extensions', 24, 1, 2, 7, 0, 3, 15, 11, 3), &
+    plan('ones', 40, 1, 2, 8, 0, 1, 15, 11, 4), &
+    plan('fractions', 64, 2, 2, 6, 1, 5, 15, 30, 4), &
+    plan('eleven', 46, 1, 5, 5, 0, 1, 11, 27, 3), &
     plan('crossing', 16, 2, 3, 5, 1, 6, 10, 6, 2), &
     plan('wide', 100, 3, 2, 256, 0, 2, 20, 5, 64), &
     plan('narrow', 45, 1, 77, 3, 0, 1, 10, 15, 5), &
@@ -152,12 +155,19 @@ contains
     nextword = mod(nextword - 1, int(own%reclen, 8)) + 1
   end subroutine go_on
 
+  ! The capacity of extension k: lex1 * gex**(k-1) / 10**(k-1) exactly, the fraction dropped once.
+  pure function capacity_of(k)
+    integer(4), intent(in) :: k
+    integer(8) :: capacity_of
+    capacity_of = int(own%lex1 * int(own%gex, 16)**(k - 1) / 10_16**(k - 1), 8)
+  end function capacity_of
+
   ! Begins an extension at the next whole record, with room for all its indexes.
   subroutine add_extension
     integer(8) :: area
-    capacity = merge(int(own%lex1, 8), capacity * own%gex / 10, nex == 0)
-    used = 0
     nex = nex + 1
+    capacity = capacity_of(nex)
+    used = 0
     if (nextword > 1) call go_on(own%reclen - nextword + 1)
     aex(nex) = nextrec
     area = (capacity * own%lind + own%reclen - 1) / own%reclen

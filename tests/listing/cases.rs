@@ -14,7 +14,7 @@ const LIMIT: usize = 65536;
 pub type Kind = (&'static str, usize, fn(&mut Random) -> Vec<u8>);
 
 /// The kinds, one after another.
-pub const PLAN: [Kind; 10] = [
+pub const PLAN: [Kind; 11] = [
     ("whole files", 400, whole),
     ("damaged files", 800, damaged),
     ("files with many damaged entries", 250, damaged_entries),
@@ -25,6 +25,7 @@ pub const PLAN: [Kind; 10] = [
     ("files with hundreds of entries", 20, hundreds),
     ("files with thousands of entries", 20, thousands),
     ("other bytes", 100, other_bytes),
+    ("files whose capacities have fractions", 60, fractions),
 ];
 
 /// The number of cases.
@@ -213,4 +214,15 @@ fn other_bytes(random: &mut Random) -> Vec<u8> {
         put(&mut bytes, 0, &FILE_CODE);
     }
     bytes
+}
+
+/// A file in order with four extensions or five, whose capacities have fractions.
+fn fractions(random: &mut Random) -> Vec<u8> {
+    let mut shape = shape(random);
+    let (lex1, gex) = random.pick(&[(1, 15), (1, 15), (5, 15), (1, 17), (2, 13), (3, 18), (3, 11), (4, 19)]);
+    let (reclen, lind) = (random.from(24, 200) as i32, random.from(3, 12) as i32);
+    shape.settings = Settings { reclen, lind, lex1, gex, ..shape.settings };
+    shape.entries = random.from(together(&shape.settings, 3) + 1, together(&shape.settings, 5));
+    shape.most_sections = shape.most_sections.min(5);
+    make(random, &shape).bytes
 }

@@ -48,14 +48,14 @@ fn crossing() {
     check("P6", &file);
 }
 
-/// P7: lex1 5 and gex 15, 23 entries without index words.
+/// P7: lex1 5 and gex 15, 24 entries without index words: the first of the fourth extension is the last.
 fn growing() {
-    let file = (0..23).fold(created(3520, 0, chosen(22, 3, 5, 15)), |file, _| after(file, &bare(&[])));
+    let file = (0..24).fold(created(3520, 0, chosen(22, 3, 5, 15)), |file, _| after(file, &bare(&[])));
     describe("P7", &file);
     for number in 1..=4 {
         extension(&format!("P7 {number}"), &file, number);
     }
-    index("P7 23", &file, 23);
+    index("P7 24", &file, 24);
     check("P7", &file);
 }
 
@@ -156,16 +156,36 @@ fn stored_counts() {
     }
     stored("lex1 1 gex 20 nex 15", chosen(46, 3, 1, 20), 15, 32768);
     stored("lex1 1 gex 20 nex 16", chosen(46, 3, 1, 20), 16, 65536);
-    stored("lex1 4096 gex 19 nex 3", chosen(22, 3, 4096, 19), 3, 26664);
-    stored("lex1 4096 gex 19 nex 4", chosen(22, 3, 4096, 19), 4, 26665);
-    for (nex, counts) in [(1, vec![6, 7]), (2, vec![6, 7, 13, 14]), (3, vec![23, 24]), (4, vec![38, 39])] {
-        for xnext in counts {
-            stored(&format!("P7 nex {nex} xnext {xnext}"), chosen(22, 3, 5, 15), nex, xnext);
-        }
-    }
+    stored("lex1 4096 gex 19 nex 3", chosen(22, 3, 4096, 19), 3, 26665);
+    stored("lex1 4096 gex 19 nex 4", chosen(22, 3, 4096, 19), 4, 26666);
+    stored_each("P7", chosen(22, 3, 5, 15), 1, &[6, 7]);
+    stored_each("P7", chosen(22, 3, 5, 15), 2, &[6, 7, 13, 14]);
+    stored_each("P7", chosen(22, 3, 5, 15), 3, &[13, 14, 24, 25]);
+    stored_each("P7", chosen(22, 3, 5, 15), 4, &[24, 25, 40, 41]);
+    fractions();
     for xnext in 0..=2 {
         stored(&format!("no extension, xnext {xnext}"), chosen(22, 3, 5, 15), 0, xnext);
     }
+}
+
+/// Files of one record with nex and each of some xnext written over.
+fn stored_each(name: &str, s: Settings, nex: i32, counts: &[i64]) {
+    for &xnext in counts {
+        stored(&format!("{name} nex {nex} xnext {xnext}"), s, nex, xnext);
+    }
+}
+
+/// Refusals 8 and 9 by capacities whose fraction is dropped once: both sides of 16,384 and of what they hold together.
+fn fractions() {
+    stored_each("lex1 1 gex 15", chosen(24, 3, 1, 15), 3, &[3, 4, 5, 6]);
+    stored_each("lex1 1 gex 15", chosen(24, 3, 1, 15), 4, &[5, 6, 8, 9]);
+    stored_each("lex1 1 gex 15", chosen(24, 3, 1, 15), 5, &[8, 9, 13, 14]);
+    stored_each("lex1 2 gex 18", chosen(46, 3, 2, 18), 16, &[16858, 16859, 30351, 30352]);
+    stored_each("lex1 3 gex 18", chosen(46, 3, 3, 18), 15, &[25291]);
+    stored_each("lex1 3 gex 18", chosen(46, 3, 3, 18), 16, &[25292]);
+    stored_each("lex1 3335 gex 17", chosen(22, 3, 3335, 17), 4, &[35027, 35028]);
+    stored_each("lex1 1154 gex 17", chosen(26, 3, 1154, 17), 5, &[21758]);
+    stored_each("lex1 1154 gex 17", chosen(26, 3, 1154, 17), 6, &[21759]);
 }
 
 /// Validates file A with Integer*8 values at a word, each with its name.

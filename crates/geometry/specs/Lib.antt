@@ -4,3 +4,4 @@ pub mod Growth
 pub mod Walk
 pub mod Stepwise
 pub mod Area
+pub mod Computing

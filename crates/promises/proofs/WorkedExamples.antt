@@ -4,9 +4,7 @@ use Rattle.image.specs.Image.{part, splice, zeros}
 use Rattle.words.specs.Word.{number, numeral, bitsAt}
 use Rattle.words.specs.Range.{within, atLeast}
 use Rattle.words.specs.Code.{sameBytes}
-use Rattle.geometry.specs.Units.{positionOf, placeOf}
-use Rattle.geometry.specs.Growth.{capacityOf, totalOf, overOf}
-use Rattle.geometry.specs.Area.{recordsFor, extensionFor, slotOf}
+use Rattle.geometry.specs.Computing.{computing}
 use Rattle.descriptor.specs.FirstRecord.{fileCodeOf, field4, field8, numbersOf, createdOf, addressesOf, mexOf}
 use Rattle.descriptor.specs.Areas.{areaAfter, areasStart, areasEnd}
 use Rattle.descriptor.specs.Rules.{entriesFit, fileRefusal}
@@ -36,8 +34,7 @@ a & b = (a, b)
 -- what the theorems below see through: to unfold this is to unfold all that it names
 seen : Unit {0}
 unfolding part splice zeros number numeral bitsAt within atLeast sameBytes
-    positionOf placeOf capacityOf totalOf overOf recordsFor extensionFor slotOf
-    fileCodeOf field4 field8 numbersOf createdOf addressesOf mexOf entriesFit areaAfter areasStart areasEnd fileRefusal validationOf
+    computing fileCodeOf field4 field8 numbersOf createdOf addressesOf mexOf entriesFit areaAfter areasStart areasEnd fileRefusal validationOf
     entryCodeOf word4 word8 sectionOf dataOf pieceWithin dataWithin sectionsWithin apart apartFrom sectionsApart dataApart
     sectionAddresses sectionIdentifiers sectionLengths sectionsOf sameInteger sectionNamed
     placeStored slotPositionOf entryRefusal enteredOf enteredIn openedAs openOf sectionPart dataPart partIn
