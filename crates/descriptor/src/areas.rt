@@ -1,6 +1,5 @@
-// The index areas of a file: whether they keep their order.
+// Rule 11: whether the index areas of a file keep their order.
 use super::inner::aex;
-use super::inner::area_after;
 use super::inner::free_position;
 use super::numbers::DescriptorNumbers;
 use geometry::Growth;
@@ -10,18 +9,18 @@ use geometry::area_records;
 use geometry::position_within;
 use geometry::walk_begun;
 use geometry::walk_on;
-ghost use mathlib.Core.Path.{_≡_};
-ghost use mathlib.Core.Bool.{true};
+ghost use mathlib.Core.Bool.{_&&_};
 ghost use Prim.Native.Nat.{_^_, _<_};
 ghost use Rattle.outcome.specs.Outcome.{Answers};
 ghost use Rattle.descriptor.specs.FirstRecord.{freeOf};
 ghost use Rattle.descriptor.specs.Areas.{areasStart, areasEnd};
 ghost use Rattle.descriptor.specs.Bounds.{Settled, Free};
 
-// Whether the areas start at record 2 or later, each at or after the end of the one before.
-pub(crate) fn areas_start(d: DescriptorNumbers, addresses: [RecordNumber; 16]) -> bool
-    requires { ⌜ Settled d ⌝ }
-    ensures { λ r. ⌜ Answers (areasStart d addresses (d .nex)) r ⌝ }
+// Whether the areas start at record 2 or later, each at or after the end of the one before, and the last
+// ends at or before the next free position.
+pub(crate) fn areas_hold(d: DescriptorNumbers, addresses: [RecordNumber; 16]) -> bool
+    requires { ⌜ Settled d × Free d × (freeOf d < 2 ^ 32) ⌝ }
+    ensures { λ r. ⌜ Answers (areasStart d addresses (d .nex) && areasEnd d addresses) r ⌝ }
 {
     let growth = Growth::new(d.lex1, d.gex);
     let mut after = RecordNumber(2);
@@ -35,14 +34,5 @@ pub(crate) fn areas_start(d: DescriptorNumbers, addresses: [RecordNumber; 16]) -
         after = RecordNumber(first.0 + area_records(walk.capacity, d.lind, d.reclen));
         walk = walk_on(growth, walk);
     }
-    true
-}
-
-// Whether the last area ends at or before the next free position.
-pub(crate) fn areas_end(d: DescriptorNumbers, addresses: [RecordNumber; 16]) -> bool
-    requires { ⌜ Settled d × Free d × (freeOf d < 2 ^ 32) × (areasStart d addresses (d .nex) ≡ true) ⌝ }
-    ensures { λ r. ⌜ Answers (areasEnd d addresses) r ⌝ }
-{
-    let after = area_after(d, addresses, d.nex);
     position_within(d.reclen, after, WordNumber(1), free_position(d))
 }

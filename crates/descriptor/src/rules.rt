@@ -1,6 +1,5 @@
 // The rules of a first record, tested in the order of their table.
-use super::areas::areas_end;
-use super::areas::areas_start;
+use super::areas::areas_hold;
 use super::inner::mex;
 use super::numbers::DescriptorNumbers;
 use geometry::ExtensionNumber;
@@ -135,10 +134,7 @@ pub(crate) fn filling_refusal(
     if !position_within(d.reclen, d.nextrec, d.nextword, bytes / 4) {
         return 10;
     }
-    if !areas_start(d, addresses) {
-        return 11;
-    }
-    if !areas_end(d, addresses) {
+    if !areas_hold(d, addresses) {
         return 11;
     }
     0

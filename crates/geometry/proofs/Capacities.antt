@@ -86,6 +86,10 @@ module _ (g : Growth) where
   unfolding capacityOf
   capacity-first = rw (pow-zero, mul-one, div-one)
 
+  -- the product of the next extension has one power of gex more
+  pub product-next : (k : ℕ) → g .lex1 * g .gex ^ k * g .gex ≡ g .lex1 * g .gex ^ suc k
+  product-next k = mul-assoc (g .lex1) (g .gex ^ k) (g .gex) ∙ ap (λ (n : ℕ). g .lex1 * n) (sym (pow-suc (g .gex) k))
+
   -- a growth that the rules admit never shrinks
   module _ (lex1-low : 1 ≤ g .lex1) (gex-low : 10 ≤ g .gex) where
     -- a capacity is no smaller than the one before it
@@ -95,9 +99,8 @@ module _ (g : Growth) where
     capacity-rise (suc k) h =
         let p = g .lex1 * g .gex ^ k in
         let less : p / 10 ^ k * 10 ^ k * 10 ≤ p * g .gex = mul-le-mul (div-mul-le-self p (10 ^ k)) gex-low in
-        let power : g .lex1 * g .gex ^ suc k ≡ p * g .gex = rw pow-suc (sym (mul-assoc (g .lex1) (g .gex ^ k) (g .gex))) in
         let tens : p / 10 ^ k * 10 ^ suc k ≡ p / 10 ^ k * 10 ^ k * 10 = rw pow-suc (sym (mul-assoc (p / 10 ^ k) (10 ^ k) 10)) in
-        rw add-one (le-div-iff-mul-le {k = 10 ^ suc k} (one-le-pow (suc k) 10 (omega arith)) .1 (omega arith))
+        rw add-one (le-div-iff-mul-le {k = 10 ^ suc k} (one-le-pow (suc k) 10 (omega arith)) .1 (omega (arith, product-next k)))
 
     -- nor than any before it
     pub capacity-le : (k n : ℕ) → 1 ≤ k → k ≤ n → capacityOf g k ≤ capacityOf g n

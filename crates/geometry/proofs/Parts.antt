@@ -10,13 +10,9 @@ use Rattle.geometry.specs.declared.growth.Growth.{Growth}
 use Rattle.geometry.specs.declared.walk.Walk.{Walk}
 use Rattle.geometry.specs.Growth.{capacityOf, totalOf}
 use Rattle.geometry.specs.Walk.{grownOf, partsOf, walkOf}
-use Rattle.geometry.proofs.Capacities.{total-last}
+use Rattle.geometry.proofs.Capacities.{product-next, total-last}
 
 module _ (g : Growth) where
-  -- the product of lex1 and one power more of gex
-  power : (k : ℕ) → g .lex1 * g .gex ^ k * g .gex ≡ g .lex1 * g .gex ^ suc k
-  power k = mul-assoc (g .lex1) (g .gex ^ k) (g .gex) ∙ ap (λ (n : ℕ). g .lex1 * n) (sym (pow-suc (g .gex) k))
-
   -- of fourteen tens, k are used up by extension k + 1, and j are left: its parts are whole
   whole : (j k : ℕ) → j + k ≡ 14 → partsOf g (suc k) ≡ g .lex1 * g .gex ^ k * 10 ^ j
   unfolding partsOf
@@ -26,7 +22,7 @@ module _ (g : Growth) where
       let tens : p * 10 ^ suc j * g .gex ≡ p * g .gex * 10 ^ j * 10 =
       mul-right-comm p (10 ^ suc j) (g .gex) ∙ ap (λ (n : ℕ). p * g .gex * n) (pow-suc 10 j) ∙ sym (mul-assoc (p * g .gex) (10 ^ j) 10) in
       ap (grownOf g) (whole (suc j) k (omega arith)) ∙ ap (λ (n : ℕ). n / 10) tens ∙ mul-div-cancel (p * g .gex * 10 ^ j) (omega arith)
-      ∙ ap (λ (n : ℕ). n * 10 ^ j) (power k)
+      ∙ ap (λ (n : ℕ). n * 10 ^ j) (product-next g k)
 
   -- the whole entries in the parts of an extension are its capacity
   pub parts-entries : (k : ℕ) → k ≤ 16 → partsOf g k / 10 ^ 14 ≡ capacityOf g k
@@ -41,7 +37,7 @@ module _ (g : Growth) where
     | no l ↦
         let last : k ≡ 15 = omega (arith, lt-of-not-le l) in
         let p = g .lex1 * g .gex ^ 14 in
-        rw last (ap (λ (n : ℕ). grownOf g n / 10 ^ 14) (whole 0 14 refl ∙ mul-one p) ∙ div-div-eq-div-mul (p * g .gex) 10 (10 ^ 14) ∙ ap (λ (n : ℕ). n / 10 ^ 15) (power 14))
+        rw last (ap (λ (n : ℕ). grownOf g n / 10 ^ 14) (whole 0 14 refl ∙ mul-one p) ∙ div-div-eq-div-mul (p * g .gex) 10 (10 ^ 14) ∙ ap (λ (n : ℕ). n / 10 ^ 15) (product-next g 14))
   ]
 
   -- the parts of a capacity within the limit are few

@@ -1,14 +1,17 @@
 -- `descriptor::rules::filling_refusal` meets its contract: each test is a row of the table, passed one after the other. Assumes nothing.
 use Prim.Native.Nat.{_/_}
 use mathlib.Core.Path.{_≡_, refl}
+use mathlib.Core.Bool.{Bool, and-eq-true-iff}
 use mathlib.Core.List.{List}
 use native.Mathlib.Omega.{arith}
 use borrow.Author.Tests.{leb-true}
 use mir.Syntax.{w64}
+use Rattle.outcome.proofs.Either.{either}
 use Rattle.words.proofs.Ranges.{atLeast-bounds}
 use Rattle.geometry.specs.Units.{entriesBefore}
 use Rattle.descriptor.specs.Refusal.{Rule}
 use Rattle.descriptor.specs.FirstRecord.{growthIn, freeOf}
+use Rattle.descriptor.specs.Areas.{areasStart}
 use Rattle.descriptor.specs.Rules.{entriesFit, fillingRules, fillingRefusal}
 use Rattle.descriptor.proofs.Tests.{holds, broken}
 use Rattle.descriptor.proofs.Refusals.{Past, past-none, next, stop}
@@ -41,8 +44,9 @@ past-4 c = next (past-3 (c .before .before)) (holds (c .before .within4 .ensures
 abbrev past-5 : tie.Else5 → Past rules 5
 past-5 c = next (past-4 (c .before .before)) (holds (c .before .position-within .ensures) (c .if5 .left))
 
-abbrev past-6 : tie.Else6 → Past rules 6
-past-6 c = next (past-5 (c .before .before)) (holds (c .before .areas-start .ensures) (c .if6 .left))
+-- the first of the two rows of rule 11, which are tested together
+abbrev started : Past rules 5 → Bool
+started p = let a = p .given .args in areasStart (a .d) (a .addresses) (a .d .nex)
 
 pub filling-refusal-spec : {M : Type 1} → statement M
 unfolding fillingRefusal
@@ -61,13 +65,17 @@ filling-refusal-spec =
     (λ c. stop (past-3 (c .before .before)) (broken (c .before .within4 .ensures) (c .if4 .taken)))
     (λ c κs. let p = past-4 c in omega (arith, p .given .pre, place-low (p .given .args .d) (p .given .args .d .nextrec .0) (p .given .args .d .nextword .0) (p .given .pre .0) (p .rows .1 .1 .0) (p .rows .1 .1 .1 .0)))
     (λ c. stop (past-4 (c .before .before)) (broken (c .before .position-within .ensures) (c .if5 .taken)))
-    (λ c κs. past-5 c .given .pre .0)
-    (λ c. stop (past-5 (c .before .before)) (broken (c .before .areas-start .ensures) (c .if6 .taken)))
     (λ c κs.
-    let s = past-6 c .given in
-    let (_, (_, (nextrec, (nextword, (within, (started, _)))))) = past-6 c .rows in
+    let s = past-5 c .given in
+    let (_, (_, (nextrec, (nextword, (within, _))))) = past-5 c .rows in
     let room = leb-true (freeOf (s .args .d)) (s .args .bytes / 4) within in
     let free : Free (s .args .d) = omega (arith, place-bounds (s .args .d) (s .args .d .nextrec) (s .args .d .nextword) (s .pre .0) nextrec nextword (omega (arith, s .pre .1 .high))) in
-    (s .pre .0, free, omega (arith, s .pre .1 .high), started))
-    (λ c. stop (past-6 (c .before .before)) (broken (c .before .areas-end .ensures) (c .if7 .taken)))
-    (λ c. stop (next (past-6 (c .before .before)) (holds (c .before .areas-end .ensures) (c .if7 .left))) refl))
+    (s .pre .0, free, omega (arith, s .pre .1 .high)))
+    (λ c.
+    let p = past-5 (c .before .before) in
+    let either-row = broken (c .before .areas-hold .ensures) (c .if6 .taken) in
+    either (started p) (λ q. stop (next p q) (rw q at either-row)) (stop p))
+    (λ c.
+    let p = past-5 (c .before .before) in
+    let both = and-eq-true-iff (started p) _ .0 (holds (c .before .areas-hold .ensures) (c .if6 .left)) in
+    stop (next (next p (both .0)) (both .1)) refl))

@@ -19,23 +19,31 @@ Inv-loop growth count walk₀ walk =
 abbrev μ-loop : tie.MeasureT-loop
 μ-loop growth count walk₀ walk = count + 1 - walk .extension .0
 
+-- the places of the loop
+abbrev start : tie.At-loop Inv-loop μ-loop → tie.Start Inv-loop μ-loop
+start l = l .before .before
+
+abbrev turn : tie.Then1 Inv-loop μ-loop → tie.At-loop Inv-loop μ-loop
+turn c = c .before .before
+
+abbrev passed : tie.Else2 Inv-loop μ-loop → tie.At-loop Inv-loop μ-loop
+passed c = turn (c .before .before)
+
 -- with those before it within the limit, the walk's extension is over it by its own capacity
-own : (c : tie.Then1 Inv-loop μ-loop) → let l = c .before .before .loop in
-    overOf (c .before .before .before .before .args .growth) (l .walk .extension .0) ≡ ltb 16384 (l .walk .capacity)
+own : (c : tie.Then1 Inv-loop μ-loop) → let l = turn c in overOf (start l .args .growth) (l .loop .walk .extension .0) ≡ ltb 16384 (l .loop .walk .capacity)
 own c =
-    let l = c .before .before .loop in
+    let l = turn c .loop in
     over-last _ (l .walk .extension .0) (l .inv .1) (l .inv .3) ∙ ap (ltb 16384) (sym (walk-capacity _ (l .walk .extension .0) (omega arith) (l .inv .0)))
 
--- so those up to it are within it where it does not stop the loop
-passed : (c : tie.Else2 Inv-loop μ-loop) → overOf (c .before .before .before .before .before .before .args .growth) (c .before .before .before .before .loop .walk .extension .0) ≡ false
-passed c = own (c .before .before) ∙ le-ltb _ _ (c .if2 .left)
+-- so those up to it are within the limit where it does not stop the loop
+within : (c : tie.Else2 Inv-loop μ-loop) → let l = passed c in overOf (start l .args .growth) (l .loop .walk .extension .0) ≡ false
+within c = own (c .before .before) ∙ le-ltb _ _ (c .if2 .left)
 
 loop-again : tie.Need-loop-again Inv-loop μ-loop
 loop-again c =
     let at = walk-stands _ (c .walk-on .ensures) in
-    let k = c .before .before .before .before .before .loop .walk .extension .0 in
-    let e : c .walk-on .result .extension .0 - 1 ≡ k = omega (arith, at .0) in
-    (at .1, omega (arith, at .0), omega (arith, at .0), rw e (passed (c .before)))
+    let e : c .walk-on .result .extension .0 - 1 ≡ passed (c .before) .loop .walk .extension .0 = omega (arith, at .0) in
+    (at .1, omega (arith, at .0), omega (arith, at .0), rw e (within (c .before)))
 
 pub over-spec : {M : Type 1} → statement M
 over-spec =
@@ -46,20 +54,18 @@ over-spec =
     (λ c κs. c .pre .0)
     (λ c. let at = walk-stands _ (c .walk-begun .ensures) in (at .1, omega (arith, at .0), omega (arith, at .0), rw (at .0) (over-none _)))
     (λ c.
-    let t = c .before .before in
-    let a = t .before .before .before .before .args in
-    sym (over-more _ (t .before .before .loop .walk .extension .0) (a .count) (omega arith) (own t ∙ lt-ltb _ _ (c .if2 .taken))))
+    let l = turn (c .before .before) in
+    sym (over-more _ (l .loop .walk .extension .0) (start l .args .count) (omega arith) (own (c .before .before) ∙ lt-ltb _ _ (c .if2 .taken))))
     (λ c κs.
-    let l = c .before .before .before .before in
-    let s = l .before .before in
+    let l = passed c in
     record {
       stands = l .loop .inv .0;
       counted = l .loop .inv .1;
       few = omega arith;
-      growing = record { lex1-high = s .pre .0; gex-high = s .pre .1; within = passed c };
+      growing = record { lex1-high = start l .pre .0; gex-high = start l .pre .1; within = within c };
     })
     (λ c. omega (arith, walk-stands _ (c .walk-on .ensures) .0))
     loop-again
     (λ c.
     let l = c .before .before in
-    let e : l .loop .walk .extension .0 - 1 ≡ l .before .before .args .count = omega arith in sym (rw e at (l .loop .inv .3))))
+    let e : l .loop .walk .extension .0 - 1 ≡ start l .args .count = omega arith in sym (rw e at (l .loop .inv .3))))

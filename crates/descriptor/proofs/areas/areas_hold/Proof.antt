@@ -1,5 +1,6 @@
--- `descriptor::areas::areas_start` meets its contract. The loop's invariant: the walk has come to an extension, `after` is the record after the areas before it, which keep their order. Assumes nothing.
+-- `descriptor::areas::areas_hold` meets its contract. The loop's invariant: the walk has come to an extension, `after` is the record after the areas before it, which keep their order. Assumes nothing.
 use mathlib.Core.Path.{_≡_, sym, ap, _∙_}
+use mathlib.Core.Bool.{Bool, true, _&&_}
 use Prim.Native.Nat.{ℕ, _-_, _+_, _≤_}
 use native.Mathlib.Omega.{arith}
 use borrow.Author.Needs.{needs}
@@ -15,11 +16,11 @@ use Rattle.geometry.specs.Walk.{walkOf}
 use Rattle.geometry.specs.Area.{areaRecords}
 use Rattle.geometry.proofs.Parts.{walk-stands, walk-capacity}
 use Rattle.descriptor.specs.FirstRecord.{growthIn, aexOf}
-use Rattle.descriptor.specs.Areas.{areaAfter, areasStart}
+use Rattle.descriptor.specs.Areas.{areaAfter, areasStart, areasEnd}
 use Rattle.descriptor.proofs.Tests.{holds}
-use Rattle.descriptor.proofs.AreaOrder.{record-none, record-next, starts-none, starts-run, area-small, growing, area-asks}
-use Rattle.descriptor.proofs.areas.areas_start.Statement.{statement}
-use Rattle.descriptor.proofs.areas.areas_start.Tie as tie
+use Rattle.descriptor.proofs.AreaOrder.{record-none, record-next, starts-none, starts-run, after-low, area-small, growing, area-asks}
+use Rattle.descriptor.proofs.areas.areas_hold.Statement.{statement}
+use Rattle.descriptor.proofs.areas.areas_hold.Tie as tie
 
 abbrev Inv-loop : tie.InvT-loop
 Inv-loop d addresses growth after₀ walk₀ after walk =
@@ -77,7 +78,7 @@ add c =
     let l = tested (r .before .before) in
     let a = start l .args in
     let low = atLeast-bounds w64 (areaAfter (a .d) (a .addresses) (passed l) .0) (aexOf (a .addresses) (passed l + 1) .0) (holds (test (r .before .before)) (r .before .if2 .left)) .1 in
-    let few = area-small (a .d) (a .addresses) (passed l + 1) (start l .pre) (omega arith) (omega arith) in
+    let few = area-small (a .d) (a .addresses) (passed l + 1) (start l .pre .0) (omega arith) (omega arith) in
     omega (arith, records r, ap (λ (r : RecordNumber). r .0) (first (r .before .before .before)))
 
 again : tie.Need-loop-again Inv-loop μ-loop
@@ -93,21 +94,36 @@ again c =
       rw (next, first (t .before), records r) (sym (record-next _ _ (passed l))),
     )
 
-pub areas-start-spec : {M : Type 1} → statement M
-areas-start-spec =
+-- the place behind the loop
+abbrev left : tie.Else1 Inv-loop μ-loop → tie.At-loop Inv-loop μ-loop
+left c = c .before .before .before
+
+-- with all areas tested, they keep their order, and `after` is the record after the last
+all : (c : tie.Else1 Inv-loop μ-loop) → let a = start (left c) .args in (areasStart (a .d) (a .addresses) (a .d .nex) ≡ true) × (left c .loop .after ≡ areaAfter (a .d) (a .addresses) (a .d .nex))
+all c =
+    let a = start (left c) .args in
+    let last : passed (left c) ≡ a .d .nex = omega (arith, left c .loop .inv .2 .few) in
+    (sym (passing-all (left c .loop .inv .2) (omega arith)), left c .loop .inv .3 ∙ ap (areaAfter (a .d) (a .addresses)) last)
+
+pub areas-hold-spec : {M : Type 1} → statement M
+unfolding areasEnd
+areas-hold-spec =
     tie.close
     (tie.spec
     Inv-loop
     μ-loop
     (λ c κs. search needs)
-    (λ c κs. rw (c .new .ensures) (c .before .pre .lex1-high))
+    (λ c κs. rw (c .new .ensures) (c .before .pre .0 .lex1-high))
     (λ c.
     let at = walk-stands _ (c .walk-begun .ensures) in
     (at .1, omega (arith, at .0), rw (at .0) (record { few = omega arith; so-far = starts-none _ _ }), rw (at .0) (sym (record-none _ _))))
     (λ c κs. omega arith)
     (λ c κs. search needs)
-    (λ c. let l = tested (c .before) in passing-failed (starts-run _ _) (l .loop .inv .2) (omega arith) (test (c .before)) (c .if2 .taken))
-    (λ c κs. let l = tested (c .before) in area-asks (start l .args .d) (passed l + 1) (start l .pre) (omega arith) (omega arith) (own c))
+    (λ c.
+    let l = tested (c .before) in
+    let a = start l .args in
+    ap (λ (b : Bool). b && areasEnd (a .d) (a .addresses)) (passing-failed (starts-run _ _) (l .loop .inv .2) (omega arith) (test (c .before)) (c .if2 .taken)))
+    (λ c κs. let l = tested (c .before) in area-asks (start l .args .d) (passed l + 1) (start l .pre .0) (omega arith) (omega arith) (own c))
     add
     (λ c κs.
     let l = tested (c .before .before .before) in
@@ -116,8 +132,13 @@ areas-start-spec =
       stands = l .loop .inv .0;
       counted = l .loop .inv .1;
       few = omega arith;
-      growing = rw (l .before .before .new .ensures) (growing (start l .args .d) k (start l .pre) (omega arith));
+      growing = rw (l .before .before .new .ensures) (growing (start l .args .d) k (start l .pre .0) (omega arith));
     })
     (λ c. omega (arith, walk-stands _ (c .walk-on .ensures) .0))
     again
-    (λ c. passing-all (c .before .before .before .loop .inv .2) (omega arith)))
+    (λ c κs. (omega (arith, start (left c) .pre .0 .reclen-high), start (left c) .pre .1))
+    (λ c κs.
+    let s = start (left (c .before)) in
+    let low = after-low (s .args .d) (s .args .addresses) (s .args .d .nex) (s .args .d .nex) (omega arith) (all (c .before) .0) in
+    omega (arith, s .pre, ap (λ (r : RecordNumber). r .0) (all (c .before) .1), c .free-position .ensures))
+    (λ c. rw (all (c .before .before) .0) (rw (all (c .before .before) .1, c .before .free-position .ensures) at (c .position-within .ensures))))
