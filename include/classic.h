@@ -139,7 +139,8 @@ typedef struct {
     uint32_t refusal;
 } classic_checked;
 
-/* The settings of a new file. */
+/* The settings of a new file. Its extension k will hold lex1 * gex^(k-1) / 10^(k-1) entries: the product is exact, and
+   its fraction is dropped once. */
 typedef struct {
     int32_t reclen, kind, vind, lind, flags, lex1, gex;
 } classic_settings;

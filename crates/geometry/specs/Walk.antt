@@ -9,13 +9,13 @@ use Rattle.geometry.specs.Growth.{totalOf, Growing}
 abbrev pub grownOf : Growth → ℕ → ℕ
 grownOf g n = n * g .gex / 10
 
--- the parts of extension k: of the first lex1 entries, of each further one grown from those of the one before it
+-- the capacity of extension k in parts: the first has those of lex1 entries, and each further one's are grown from those of the one before it
 unfoldable pub partsOf : Growth → ℕ → ℕ
 partsOf g zero = 0
 partsOf g (suc zero) = g .lex1 * 10 ^ 14
 partsOf g (suc (suc k)) = grownOf g (partsOf g (suc k))
 
--- a walk that has come to extension k
+-- a walk that has come to extension k: the capacities before it together, and its own, the whole entries in its parts
 abbrev pub walkOf : Growth → ℕ → Walk
 walkOf g k = record { extension = record { 0 = k }; before = totalOf g (k - 1); capacity = partsOf g k / 10 ^ 14; parts = partsOf g k }
 
