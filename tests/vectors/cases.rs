@@ -163,6 +163,7 @@ fn stored_counts() {
     stored_each("P7", chosen(22, 3, 5, 15), 3, &[13, 14, 24, 25]);
     stored_each("P7", chosen(22, 3, 5, 15), 4, &[24, 25, 40, 41]);
     fractions();
+    sixteenths();
     for xnext in 0..=2 {
         stored(&format!("no extension, xnext {xnext}"), chosen(22, 3, 5, 15), 0, xnext);
     }
@@ -186,6 +187,25 @@ fn fractions() {
     stored_each("lex1 3335 gex 17", chosen(22, 3, 3335, 17), 4, &[35027, 35028]);
     stored_each("lex1 1154 gex 17", chosen(26, 3, 1154, 17), 5, &[21758]);
     stored_each("lex1 1154 gex 17", chosen(26, 3, 1154, 17), 6, &[21759]);
+}
+
+/// Refusal 8 by extension 16, for each other gex between 10 and 20: the greatest lex1 that is admitted, with as many entries
+/// as fit, and the next lex1.
+fn sixteenths() {
+    for (greatest, gex, xnext) in [
+        (3922, 11, 140988),
+        (1063, 12, 92944),
+        (320, 13, 69905),
+        (105, 14, 56903),
+        (37, 15, 48526),
+        (14, 16, 43012),
+        (5, 17, 34743),
+        (1, 19, 32042),
+    ] {
+        for lex1 in [greatest, greatest + 1] {
+            stored_each(&format!("lex1 {lex1} gex {gex}"), chosen(46, 3, lex1, gex), 16, &[xnext]);
+        }
+    }
 }
 
 /// Validates file A with Integer*8 values at a word, each with its name.

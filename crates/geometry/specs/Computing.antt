@@ -1,4 +1,4 @@
--- What an example that is computed sees through of this crate, by one name: no law outside it looks inside these definitions.
+-- What an example that is computed sees through of this crate, by one name: nothing else outside it looks inside a capacity.
 use Rattle.geometry.specs.Units.{positionOf, placeOf}
 use Rattle.geometry.specs.Growth.{capacityOf, totalOf, overOf}
 use Rattle.geometry.specs.Area.{recordsFor, extensionFor, slotOf}
