@@ -6,7 +6,7 @@ use mathlib.Core.List.{List}
 use lib.ListN.{length}
 use Rattle.geometry.specs.declared.units.RecordNumber.{RecordNumber}
 use Rattle.geometry.specs.Units.{entriesBefore}
-use Rattle.geometry.specs.Growth.{overOf}
+use Rattle.geometry.specs.Growth.{capacityOf, overOf}
 use Rattle.descriptor.specs.declared.numbers.DescriptorNumbers.{DescriptorNumbers}
 use Rattle.descriptor.specs.FirstRecord.{growthIn, freeOf}
 use Rattle.descriptor.specs.Areas.{areasStart, areasEnd}
@@ -50,6 +50,14 @@ pub record Free (d : DescriptorNumbers) : Type 0 where
   pub record-high : d .nextrec .0 ≤ 2 ^ 32
   pub word-low : 1 ≤ d .nextword .0
   pub word-high : d .nextword .0 ≤ d .reclen
+
+-- an extension in use of that capacity, where the areas start in order
+pub record Ordered (d : DescriptorNumbers) (addresses : List RecordNumber) (k capacity : ℕ) : Type 0 where
+  pub settled : Settled d
+  pub started : areasStart d addresses (d .nex) ≡ true
+  pub counted : 1 ≤ k
+  pub used : k ≤ d .nex
+  pub holds : capacity ≡ capacityOf (growthIn d) k
 
 -- all of them: what `validate` shows of the numbers and addresses of a file of so many bytes
 pub record Admitted (bytes : ℕ) (d : DescriptorNumbers) (addresses : List RecordNumber) : Type 0 where

@@ -4,16 +4,13 @@ use geometry::ExtensionNumber;
 use geometry::Growth;
 use geometry::RecordNumber;
 use geometry::area_records;
-use geometry::capacity;
 use geometry::position;
 use geometry::table_index;
-ghost use mathlib.Core.Path.{_≡_};
-ghost use mathlib.Core.Bool.{true};
 ghost use Prim.Native.Nat.{_≤_};
 ghost use Rattle.outcome.specs.Outcome.{Answers};
 ghost use Rattle.descriptor.specs.FirstRecord.{mexOf, aexOf, freeOf};
-ghost use Rattle.descriptor.specs.Areas.{areaAfter, areasStart};
-ghost use Rattle.descriptor.specs.Bounds.{Settled, Free};
+ghost use Rattle.descriptor.specs.Areas.{areaAfter};
+ghost use Rattle.descriptor.specs.Bounds.{Free, Ordered};
 
 // The most extensions that a first record has room for.
 pub fn mex(reclen: u64) -> u64
@@ -37,21 +34,18 @@ pub fn aex(addresses: [RecordNumber; 16], extension: ExtensionNumber) -> RecordN
     addresses[index]
 }
 
-// The record after the area of the last of the first `count` extensions.
-pub fn area_after(d: DescriptorNumbers, addresses: [RecordNumber; 16], count: u64) -> RecordNumber
-    requires { ⌜ Settled d × (count ≤ d .nex) × (areasStart d addresses (d .nex) ≡ true) ⌝ }
-    ensures { λ r. ⌜ Answers (areaAfter d addresses count) r ⌝ }
+// The record after the area of an extension of that capacity.
+pub fn area_after(
+    d: DescriptorNumbers,
+    addresses: [RecordNumber; 16],
+    extension: ExtensionNumber,
+    capacity: u64,
+) -> RecordNumber
+    requires { ⌜ Ordered d addresses (extension .0) capacity ⌝ }
+    ensures { λ r. ⌜ Answers (areaAfter d addresses (extension .0)) r ⌝ }
 {
-    if count == 0 {
-        return RecordNumber(2);
-    }
-    let extension = ExtensionNumber(count);
-    let records = area_records(
-        capacity(Growth::new(d.lex1, d.gex), extension),
-        d.lind,
-        d.reclen,
-    );
-    RecordNumber(aex(addresses, extension).0 + records)
+    let first = aex(addresses, extension);
+    RecordNumber(first.0 + area_records(capacity, d.lind, d.reclen))
 }
 
 // The next free position.

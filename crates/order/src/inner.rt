@@ -8,7 +8,9 @@ use geometry::EntryNumber;
 use geometry::Growth;
 use geometry::RecordNumber;
 use geometry::entries_before;
-use geometry::slot_of;
+use geometry::slot_in;
+use geometry::walk_begun;
+use geometry::walk_to_entry;
 ghost use lib.ListN.{length};
 ghost use Rattle.outcome.specs.Outcome.{Answers};
 ghost use Rattle.descriptor.specs.Bounds.{Admitted};
@@ -22,6 +24,7 @@ pub fn check_entries(file: &[u8], d: DescriptorNumbers, addresses: [RecordNumber
     let bytes = file.len() as u64;
     let growth = Growth::new(d.lex1, d.gex);
     let entries = entries_before(d.xnext);
+    let mut walk = walk_begun(growth);
     let mut passed = 0;
     let mut before = 0;
     while passed < entries {
@@ -33,15 +36,17 @@ pub fn check_entries(file: &[u8], d: DescriptorNumbers, addresses: [RecordNumber
                 refusal: entered.refusal,
             };
         }
-        let slot = slot_of(growth, d.nex, d.lind, number);
-        if !starts_in_order(bytes, d, addresses, slot, before, entered.start) {
+        walk = walk_to_entry(growth, walk, d.nex, number);
+        let slot = slot_in(walk, d.lind, number);
+        let capacity = walk.capacity;
+        if !starts_in_order(bytes, d, addresses, slot, capacity, before, entered.start) {
             return Checked {
                 entry: number,
                 refusal: 25,
             };
         }
         let end = entered.start + entered.nword;
-        if !ends_in_order(bytes, d, addresses, slot, end) {
+        if !ends_in_order(bytes, d, addresses, slot, capacity, end) {
             return Checked {
                 entry: number,
                 refusal: 25,

@@ -1,13 +1,13 @@
 -- `order::rules::ends_in_order` meets its contract. Assumes nothing.
 use Prim.Native.Nat.{_+_, _-_}
-use mathlib.Core.Path.{_≡_}
+use mathlib.Core.Path.{_≡_, sym, _∙_}
 use mathlib.Core.Bool.{true}
 use lib.Dec.{eqb}
 use native.Mathlib.Omega.{arith}
 use borrow.Author.Tests.{eq-eqb, ne-eqb, lt-ltb, le-ltb}
 use Rattle.geometry.specs.Growth.{capacityOf}
 use Rattle.descriptor.specs.FirstRecord.{growthIn}
-use Rattle.descriptor.proofs.AreaOrder.{growing, area-first}
+use Rattle.descriptor.proofs.AreaOrder.{area-first}
 use Rattle.order.specs.Order.{endsInOrder}
 use borrow.Author.Needs.{needs}
 use Rattle.order.proofs.rules.ends_in_order.Statement.{statement}
@@ -15,29 +15,18 @@ use Rattle.order.proofs.rules.ends_in_order.Tie as tie
 
 -- where the function begins
 abbrev begin : tie.Else1 → tie.Start
-begin c = c .before .before .before .before .before
-
--- the capacity of the slot's extension
-own : (c : tie.After-capacity) → let a = c .before .before .before .args in c .capacity .result ≡ capacityOf (growthIn (a .d)) (a .slot .extension .0)
-own c = rw (c .before .new .ensures) at (c .capacity .ensures)
+begin c = c .before .before
 
 -- the slot is its extension's last
-full : (c : tie.Else1) → let a = c .before .before .before .before .before .args in eqb (a .slot .place) (capacityOf (growthIn (a .d)) (a .slot .extension .0)) ≡ true
-full c =
-    let l = c .before .before in
-    rw (own l) at (eq-eqb (l .before .before .before .args .slot .place) (l .capacity .result) (c .if1 .left))
-
-capacity-requires : tie.Need-capacity-requires
-capacity-requires c κs =
-    let s = c .before .before in
-    let a = s .pre .0 in
-    (s .pre .1, omega (arith, s .pre .2, a .settled .nex-high), rw (c .new .ensures) (growing (s .args .d) (s .args .slot .extension .0 - 1) (a .settled) (omega (arith, s .pre .2))))
+full : (c : tie.Else1) → let a = begin c .args in eqb (a .slot .place) (capacityOf (growthIn (a .d)) (a .slot .extension .0)) ≡ true
+full c = eq-eqb _ _ (c .if1 .left ∙ begin c .pre .1 .holds)
 
 returns : tie.Need-returns
 unfolding endsInOrder
 returns c =
-    let l = c .before .before in
-    rw (rw (own l) at (ne-eqb (l .before .before .before .args .slot .place) (l .capacity .result) (c .if1 .taken)))
+    let s = c .before .before in
+    let less = ne-eqb (s .args .slot .place) (capacityOf (growthIn (s .args .d)) (s .args .slot .extension .0)) (λ q. c .if1 .taken (q ∙ sym (s .pre .1 .holds))) in
+    rw less
 
 returns-2 : tie.Need-returns-2
 unfolding endsInOrder
@@ -65,8 +54,6 @@ pub ends-in-order-spec : {M : Type 1} → statement M
 ends-in-order-spec =
     tie.close
     (tie.spec
-    (λ c κs. search needs)
-    capacity-requires
     returns
     returns-2
     (λ c. search needs)

@@ -6,26 +6,25 @@ use borrow.Author.Tests.{eq-eqb, ne-eqb}
 use Rattle.descriptor.specs.Areas.{areaAfter}
 use Rattle.descriptor.proofs.AreaOrder.{after-low, area-ends}
 use Rattle.order.specs.Order.{startsInOrder}
-use borrow.Author.Needs.{needs}
 use Rattle.order.proofs.rules.starts_in_order.Statement.{statement}
 use Rattle.order.proofs.rules.starts_in_order.Tie as tie
 
 position-requires : tie.Need-position-requires
 position-requires c κs =
-    let s = c .before .before .before in
+    let s = c .before .before .before .before in
     let k = s .args .slot .extension .0 in
     let a = s .pre .0 in
     let some : 1 ≤ s .args .d .reclen = omega (arith, a .settled .reclen-low) in
-    let low = after-low (s .args .d) (s .args .addresses) k (s .args .d .nex) (s .pre .2) (a .started) in
-    let high = area-ends (s .args .bytes) (s .args .d) (s .args .addresses) a k (s .pre .2) in
+    let low = after-low (s .args .d) (s .args .addresses) k (s .args .d .nex) (s .pre .1 .used) (a .started) in
+    let high = area-ends (s .args .bytes) (s .args .d) (s .args .addresses) a k (s .pre .1 .used) in
     rw (c .area-after .ensures)
     (omega arith, omega (arith, a .room, a .lent .high, mul-le-mul-left (areaAfter (s .args .d) (s .args .addresses) k .0 - 1) some), omega arith, omega arith, a .settled .reclen-high)
 
 returns : tie.Need-returns
 unfolding startsInOrder
 returns c =
-    let a = c .before .before .before .before .args in
-    rw (eq-eqb (a .slot .place) 1 (c .before .before .if1 .taken), c .position .ensures, c .before .area-after .ensures)
+    let a = c .before .before .before .before .before .args in
+    rw (eq-eqb (a .slot .place) 1 (c .before .before .before .if1 .taken), c .position .ensures, c .before .area-after .ensures)
 
 returns-2 : tie.Need-returns-2
 unfolding startsInOrder
@@ -34,4 +33,4 @@ returns-2 c =
     rw (ne-eqb (a .slot .place) 1 (c .if1 .left))
 
 pub starts-in-order-spec : {M : Type 1} → statement M
-starts-in-order-spec = tie.close (tie.spec (λ c κs. search needs) position-requires returns returns-2)
+starts-in-order-spec = tie.close (tie.spec (λ c κs. c .before .before .before .pre .1) position-requires returns returns-2)
