@@ -7,6 +7,9 @@ use borrow.Author.Needs.{needs}
 use Rattle.geometry.proofs.area.slot_in.Statement.{statement}
 use Rattle.geometry.proofs.area.slot_in.Tie as tie
 
+returns : tie.Need-returns
+returns c = refl
+
 pub slot-in-spec : {M : Type 1} → statement M
 slot-in-spec =
     tie.close
@@ -17,4 +20,4 @@ slot-in-spec =
     let s = c .before .before .before in
     let low : s .args .entry .0 - s .args .walk .before - 1 ≤ 16384 = omega arith in
     omega (arith, mul-le-mul low (s .pre .2)))
-    (λ c. refl))
+    returns)
