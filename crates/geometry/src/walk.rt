@@ -19,7 +19,7 @@ pub struct Walk {
 }
 
 impl Walk {
-    pub const PARTS_OF_AN_ENTRY: u64 = 100000000000000;
+    pub const PARTS_OF_AN_ENTRY: u64 = 100_000_000_000_000;
 }
 
 // The parts that follow from parts: times gex, divided by 10, the tens and the last digit each for
