@@ -83,12 +83,14 @@ slot-stands g nex lind e h l =
       words = refl;
     }
 
--- a walk at the extension of entry e finds its slot there, and those before it do not reach the entry
+-- a walk at the extension of entry e
 module _ (g : Growth) (nex lind : ℕ) (e : EntryNumber) {w : Walk} (at : w ≡ walkOf g (extensionFor g nex (e .0))) where
+  -- finds the slot of the entry there
   pub walk-slot : slotAt (w .extension .0) (e .0 - w .before) lind ≡ slotOf g nex lind e
   unfolding slotOf
   walk-slot = ap (λ (x : Walk). slotAt (x .extension .0) (e .0 - x .before) lind) at
 
+  -- and those before it do not reach the entry, which is at most 16,384 further
   pub walk-near : overOf g nex ≡ false → 1 ≤ e .0 → e .0 ≤ totalOf g nex → (w .before < e .0) × (e .0 ≤ w .before + 16384) × (1 ≤ w .extension .0)
   walk-near p h l =
       let k = extensionFor g nex (e .0) in
