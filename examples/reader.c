@@ -1,5 +1,6 @@
-/* Prints what a CLASSIC file holds: its descriptor and index areas; the numbers, index words, sections and data of each
-   entry; and whether the entries stand in order. Words are printed as Integer*4. Written from classic.h alone.
+/* Prints what a CLASSIC file of either byte order holds: its descriptor and index areas; the numbers, index words,
+   sections and data of each entry; and whether the entries stand in order. Words are printed as Integer*4. Written from
+   classic.h alone.
    Usage: reader FILE. Its status is 0, 1 where something is refused, 2 where the file cannot be read. */
 #include "classic.h"
 
@@ -41,7 +42,8 @@ static int read_file(const char *name) {
     return read;
 }
 
-/* Prints the words of a part behind what they are. A word in the file is little-endian on every machine. */
+/* Prints the words of a part behind what they are. No call turns these words, and the file's order says nothing of them:
+   they are printed as little-endian ones, which those of the examples are. */
 static void print_words(const char *what, classic_part part) {
     printf("  %s:", what);
     for (uint64_t at = part.start; at < part.start + part.length; at += 4) {
@@ -54,9 +56,11 @@ static void print_words(const char *what, classic_part part) {
 
 /* Prints the descriptor, and the index area of each extension. */
 static void print_descriptor(const classic_descriptor *d) {
-    printf("reclen %" PRIu32 ", kind %" PRIu32 ", vind %" PRIu32 ", lind %" PRIu32 ", flags %" PRIu32 ", xnext %" PRIu64
-           ", nextrec %" PRIu64 ", nextword %" PRIu32 ", lex1 %" PRIu32 ", nex %" PRIu32 ", gex %" PRIu32 "\n",
-           d->reclen, d->kind, d->vind, d->lind, d->flags, d->xnext, d->nextrec, d->nextword, d->lex1, d->nex, d->gex);
+    printf("order %" PRIu32 ", reclen %" PRIu32 ", kind %" PRIu32 ", vind %" PRIu32 ", lind %" PRIu32 ", flags %" PRIu32
+           ", xnext %" PRIu64 ", nextrec %" PRIu64 ", nextword %" PRIu32 ", lex1 %" PRIu32 ", nex %" PRIu32
+           ", gex %" PRIu32 "\n",
+           d->order, d->reclen, d->kind, d->vind, d->lind, d->flags, d->xnext, d->nextrec, d->nextword, d->lex1, d->nex,
+           d->gex);
     for (uint32_t k = 1; k <= d->nex; k++) {
         classic_extension x = classic_extension_of(file, bytes, k);
         printf("extension %" PRIu32 ": capacity %" PRIu64 ", index area from record %" PRIu64 ", records %" PRIu64 "\n",

@@ -1,4 +1,4 @@
-/* Writes the examples by the library: a.classic to d.classic in a folder. README.md says what each is.
+/* Writes the examples by the library: a.classic to e.classic in a folder. README.md says what each is.
    Usage: writer FOLDER */
 #include "classic.h"
 
@@ -26,7 +26,7 @@ static void give_up(const char *what, uint32_t refusal) {
     exit(1);
 }
 
-/* Writes an Integer*4 at a byte of an image. */
+/* Writes a word at a byte of an image, the lowest byte first, as the little order has an Integer*4. */
 static void put4(uint8_t *at, uint32_t value) {
     for (int i = 0; i < 4; i++) at[i] = (uint8_t)(value >> 8 * i);
 }
@@ -47,7 +47,7 @@ static void create(size_t records, classic_settings settings) {
 }
 
 /* Appends entries. The index words of entry k count up from 100 k, its sections from 1,000 k and its data from
-   10,000 k. */
+   10,000 k; they are the same bytes in either order. */
 static void append(const addition *additions, uint32_t count) {
     uint8_t index[64], sections[64], data[64];
     for (uint32_t k = 1; k <= count; k++) {
@@ -85,13 +85,20 @@ static uint8_t *index_word_of(uint64_t entry, size_t word) {
     return file + application.start - 4 * 3 + 4 * (word - 1);
 }
 
-/* a.classic, file A of docs/FORMAT.md; d.classic is the same with its last record lost. */
-static void write_a_and_d(const char *folder) {
+/* Makes file A of docs/FORMAT.md in a byte order. */
+static void make_a(int32_t order) {
     static const addition additions[] = {{1, 1, {7}, {3}, 5}, {1, 0, {0}, {0}, 0}, {1, 0, {0}, {0}, 0}};
-    create(6, (classic_settings){20, 1, 2, 4, 0, 2, 20});
+    create(6, (classic_settings){order, 20, 1, 2, 4, 0, 2, 20});
     append(additions, 3);
+}
+
+/* a.classic, file A; d.classic, the same with its last record lost; e.classic, file A in the big order. */
+static void write_a_d_and_e(const char *folder) {
+    make_a(CLASSIC_LITTLE);
     save(folder, "a.classic", bytes);
     save(folder, "d.classic", bytes - 4 * reclen);
+    make_a(CLASSIC_BIG);
+    save(folder, "e.classic", bytes);
 }
 
 /* b.classic: three extensions of 2, 3 and 4 entries; the index of entry 9 crosses a record's end. */
@@ -101,7 +108,7 @@ static void write_b(const char *folder) {
         {2, 0, {0}, {0}, 0},         {1, 1, {7}, {4}, 0},      {3, 2, {7, -3}, {1, 1}, 10},
         {1, 2, {-2, -3}, {5, 1}, 1}, {0, 1, {100000}, {2}, 6}, {-1, 1, {7}, {3}, 5},
     };
-    create(20, (classic_settings){20, 1, 2, 6, 1, 2, 15});
+    create(20, (classic_settings){CLASSIC_LITTLE, 20, 1, 2, 6, 1, 2, 15});
     append(additions, 9);
     save(folder, "b.classic", bytes);
 }
@@ -112,7 +119,7 @@ static void write_c(const char *folder) {
         {1, 1, {7}, {3}, 5}, {1, 0, {0}, {0}, 0}, {1, 1, {7}, {3}, 8},
         {1, 0, {0}, {0}, 4}, {1, 1, {7}, {3}, 5}, {1, 0, {0}, {0}, 2},
     };
-    create(12, (classic_settings){20, 1, 2, 4, 0, 6, 10});
+    create(12, (classic_settings){CLASSIC_LITTLE, 20, 1, 2, 4, 0, 6, 10});
     append(additions, 6);
     put4(word_of(2, 1), 0);
     put4(word_of(4, 10), 3);
@@ -123,7 +130,7 @@ static void write_c(const char *folder) {
 
 int main(int argc, char **argv) {
     if (argc != 2) give_up("usage: writer FOLDER", 0);
-    write_a_and_d(argv[1]);
+    write_a_d_and_e(argv[1]);
     write_b(argv[1]);
     write_c(argv[1]);
     return 0;

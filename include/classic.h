@@ -40,8 +40,12 @@ extern "C" {
    from 0.
 
    Byte order. Numbers that are handed over, alone, in a struct or in an array, are the machine's own. In the file
-   Integer*4 and Integer*8 are little-endian and two's complement, and the calls turn them. Index words, sections and
-   data are bytes as the application has them: no call reads them as numbers or turns them.
+   Integer*4 and Integer*8 are two's complement, in the order that the file's code says: "2A  " (32 41 20 20) is order 0,
+   little-endian, the least significant byte first, and "2B  " (32 42 20 20) is order 1, big-endian, the most significant
+   first. The calls turn them: the fields of the first record with the addresses, those of an entry's descriptor with
+   its tables, and the first three words of an entry's index. A new file's order is one of its settings; an append
+   writes in the file's own. The codes, the application's index words, sections and data are bytes as they are handed
+   over: no call reads them as numbers or turns them, in either order.
 
    Lending. The file is the caller's whole buffer; bytes past the next free word are free room and mean nothing.
    Every buffer belongs to the caller, is used during the call only, and is never kept or freed. A call reads
@@ -56,12 +60,12 @@ extern "C" {
    refusal, 0 when the call accepts; a refused call gives zeros elsewhere, only a check adds an entry number. */
 
 /* The refusals, in the order in which they are tested: a call gives the first that applies. Every call but create
-   tests 1 to 11; create tests 1 and 3 to 8 on its settings. extension_of adds 12; open, index_words and data add
+   tests 1 to 11; create tests 1 to 8 on its settings. extension_of adds 12; open, index_words and data add
    12 to 19, section adds 20 to these; append adds 21 to 24; check adds 13 to 19 for each entry, and 25. */
 enum classic_refusal {
     CLASSIC_ACCEPTED = 0,        /* no refusal */
     CLASSIC_LENT_SHORT = 1,      /* fewer than 64 bytes are lent */
-    CLASSIC_FILE_CODE = 2,       /* the file code is not "2A  " */
+    CLASSIC_FILE_CODE = 2,       /* the file code is neither "2A  " nor "2B  "; create: the order is neither 0 nor 1 */
     CLASSIC_RECLEN = 3,          /* reclen is not 16 to 4,096 */
     CLASSIC_LENT_LENGTH = 4,     /* the lent length is over 2^30 bytes or not whole records */
     CLASSIC_KIND = 5,            /* kind is not 1, 2 or 3 */
@@ -89,9 +93,15 @@ enum classic_refusal {
                                     start of the index area that comes after it */
 };
 
-/* The descriptor of a file. aex has the first record of each index area, zero past nex. */
+/* The two byte orders of a file. */
+enum classic_order {
+    CLASSIC_LITTLE = 0, /* "2A  ": the least significant byte of an integer comes first */
+    CLASSIC_BIG = 1     /* "2B  ": the most significant byte comes first */
+};
+
+/* The descriptor of a file. order is a classic_order; aex has the first record of each index area, zero past nex. */
 typedef struct {
-    uint32_t refusal, reclen, kind, vind, lind, flags;
+    uint32_t refusal, order, reclen, kind, vind, lind, flags;
     uint64_t xnext, nextrec;
     uint32_t nextword, lex1, nex, gex;
     uint64_t aex[16];
@@ -139,10 +149,10 @@ typedef struct {
     uint32_t refusal;
 } classic_checked;
 
-/* The settings of a new file. Its extension k will hold lex1 * gex^(k-1) / 10^(k-1) entries: the product is exact, and
-   its fraction is dropped once. */
+/* The settings of a new file. order is a classic_order. Its extension k will hold lex1 * gex^(k-1) / 10^(k-1) entries:
+   the product is exact, and its fraction is dropped once. */
 typedef struct {
-    int32_t reclen, kind, vind, lind, flags, lex1, gex;
+    int32_t order, reclen, kind, vind, lind, flags, lex1, gex;
 } classic_settings;
 
 /* Writes the first record of a file with no entries, and answers the refusal. Later bytes stay. */

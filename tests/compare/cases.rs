@@ -1,68 +1,77 @@
-//! The cases: files made, damaged, cut, grown and created, and the calls asked of them. A case is made from the seed
-//! and its number alone.
+//! The cases: files made, damaged, turned, cut, grown and created, and the calls asked of them. A case is made from the
+//! seed and its number alone.
 
 use crate::additions::{addition, spoil};
-use crate::damage::{edges, fields, random_damage, Field};
+use crate::damage::{codes, edges, fields, random_damage, turned, Field};
 use crate::examples::examples;
 use crate::files::{self, area_words, make, make_full, put_bare, together, Made, Shape};
 use crate::random::Random;
-use crate::reference::{self, Addition, Settings};
-use crate::script::{Call, Script};
+use crate::reference::{self, Addition, Order, Settings};
+use crate::script::{Asked, Call, Script};
 
-/// How many cases there are of each kind, one kind after another.
-const PLAN: [(usize, fn(&mut Random, &mut Script)); 12] = [
+/// What writes a case of a kind into a script.
+type Kind = fn(&mut Random, &mut Script);
+
+/// How many cases there are of each kind in each order, one kind after another.
+const PLAN: [(usize, Kind); 14] = [
     (1, examples),
-    (24, every_edge),
+    (20, every_edge),
     (6, last_of_64),
     (4, great_lengths),
     (20, great_numbers),
     (33, growths),
-    (120, cut_and_grown),
-    (2000, damaged),
-    (800, whole),
-    (300, creations),
-    (600, appends),
+    (60, cut_and_grown),
+    (20, other_codes),
+    (60, turned_over),
+    (1000, damaged),
+    (400, whole),
+    (200, creations),
+    (300, appends),
     (SERIES, series),
 ];
 
-/// The number of series; they are the last cases.
-const SERIES: usize = 500;
+/// The number of series in each order; they are the last cases.
+const SERIES: usize = 250;
 
 /// The number of cases.
 pub fn count() -> usize {
-    PLAN.iter().map(|(count, _)| count).sum()
+    PLAN.iter().map(|(count, _)| 2 * count).sum()
 }
 
 /// Says whether a case is a series for demand 3.
 pub fn is_series(case: usize) -> bool {
-    case >= count() - SERIES
+    case >= count() - 2 * SERIES
 }
 
 /// Makes a case.
 pub fn script(seed: u64, case: usize) -> Script {
-    let mut script = Script::default();
-    fill(seed, case, &mut script);
-    script
+    watching(seed, case, None)
 }
 
 /// The file of a case as it is before a call.
 pub fn file_before(seed: u64, case: usize, call: usize) -> Vec<u8> {
-    let mut script = Script { watched: Some(call), ..Script::default() };
-    fill(seed, case, &mut script);
-    script.watched_file
+    watching(seed, case, Some(call)).watched_file
 }
 
-/// Writes a case into a script.
-fn fill(seed: u64, case: usize, script: &mut Script) {
+/// Makes a case in which a call may be watched. The cases of a kind have the two orders in turn.
+fn watching(seed: u64, case: usize, watched: Option<usize>) -> Script {
     let mut random = Random::new(seed, case as u64);
-    script.turn = case;
-    let mut first = 0;
+    let (kind, place) = kind_of(case);
+    let mut script = Script::new(Order::BOTH[place % 2], place / 2, watched);
+    kind(&mut random, &mut script);
+    script
+}
+
+/// The kind of a case, and its place among the cases of the kind.
+fn kind_of(case: usize) -> (Kind, usize) {
+    let mut place = case;
     for (count, kind) in PLAN {
-        if (first..first + count).contains(&case) {
-            kind(&mut random, script);
+        if place < 2 * count {
+            return (kind, place);
         }
-        first += count;
+        place -= 2 * count;
     }
+    panic!("there is no case {case}")
 }
 
 /// A number to ask for: mostly one of 1 to last, else one past an edge.
@@ -120,7 +129,7 @@ fn append(random: &mut Random, script: &mut Script, lind: i32, spoiled: usize) -
 
 /// Each edge value in each field of a small file.
 fn every_edge(random: &mut Random, script: &mut Script) {
-    let mut shape = files::shape(random);
+    let mut shape = files::shape(random, script.order);
     shape.settings.reclen = random.pick(&[18, 20, 24, 32, 48]);
     shape.settings.lind = shape.settings.lind.min(12);
     shape.settings.lex1 = random.from(1, 2) as i32;
@@ -134,7 +143,7 @@ fn every_edge(random: &mut Random, script: &mut Script) {
 
 /// Each edge value in the fields of the last of 64 sections.
 fn last_of_64(random: &mut Random, script: &mut Script) {
-    let mut shape = files::shape(random);
+    let mut shape = files::shape(random, script.order);
     (shape.entries, shape.least_sections, shape.most_sections) = (1, 64, 64);
     let made = make(random, &shape);
     script.lend(&made.bytes, made.bytes.len());
@@ -163,7 +172,7 @@ fn damage_each(random: &mut Random, script: &mut Script, made: &Made, fields: &[
 
 /// Lent lengths around 2^30 bytes, of which only the first part may be touched.
 fn great_lengths(random: &mut Random, script: &mut Script) {
-    let mut shape = files::shape(random);
+    let mut shape = files::shape(random, script.order);
     shape.settings.reclen = random.pick(&[16, 32, 128]);
     shape.settings.lind = 4;
     shape.entries = 1;
@@ -183,7 +192,7 @@ fn great_lengths(random: &mut Random, script: &mut Script) {
 
 /// Files with thousands of entries that are not there, up to the greatest capacities and the greatest count.
 fn great_numbers(random: &mut Random, script: &mut Script) {
-    let mut settings = files::settings(random);
+    let mut settings = files::settings(random, script.order);
     settings.lind = random.from(3, 4) as i32;
     let grown = [(46, 4096, 10, 16), (22, 4096, 20, 3), (24, 4096, 15, 4), (60, 3001, 19, 3), (40, 4096, 20, 2)];
     let (reclen, lex1, gex, extensions) = grown[script.turn % 5];
@@ -201,7 +210,7 @@ fn great_numbers(random: &mut Random, script: &mut Script) {
     let fewer = together(&settings, extensions - 1);
     for xnext in [entries, entries + 2, fewer + 2, fewer + 1] {
         script.again();
-        script.poke(4 * 6, &(xnext as i64).to_le_bytes());
+        script.poke(4 * 6, &script.order.bytes8(xnext as i64));
         script.call(Call::Validate);
         append(random, script, settings.lind, 6);
         script.call(Call::Open(xnext as u64 - 1));
@@ -225,7 +234,7 @@ fn growths(random: &mut Random, script: &mut Script) {
     let admitted = greatest_lex1(gex, extensions);
     for lex1 in [admitted, admitted + 1] {
         let (reclen, lind) = (random.pick(&[46, 47, 64, 128]), random.from(3, 4) as i32);
-        let settings = Settings { reclen, lind, lex1, gex, ..files::settings(random) };
+        let settings = Settings { reclen, lind, lex1, gex, ..files::settings(random, script.order) };
         try_growth(random, script, &settings, extensions);
     }
 }
@@ -264,8 +273,8 @@ fn try_growth(random: &mut Random, script: &mut Script, settings: &Settings, ext
 /// Makes the file what it was when it was lent, but for nex and the number of entries.
 fn recount(script: &mut Script, nex: usize, entries: usize) {
     script.again();
-    script.poke(4 * 12, &(nex as i32).to_le_bytes());
-    script.poke(4 * 6, &(entries as i64 + 1).to_le_bytes());
+    script.poke(4 * 12, &script.order.bytes4(nex as i32));
+    script.poke(4 * 6, &script.order.bytes8(entries as i64 + 1));
 }
 
 /// Asks for each extension and one more, reads some entries, and checks the order.
@@ -282,7 +291,7 @@ fn read_at(script: &mut Script, entries: &[usize], nex: usize) {
 
 /// A file lent with other lengths than its own.
 fn cut_and_grown(random: &mut Random, script: &mut Script) {
-    let shape = files::shape(random);
+    let shape = files::shape(random, script.order);
     let made = make(random, &shape);
     let (size, record) = (made.bytes.len(), 4 * made.reclen());
     let near = [size - record, size - 4, size - 1, size, size + 1, size + 4, size + record, size + 40 * record];
@@ -295,6 +304,51 @@ fn cut_and_grown(random: &mut Random, script: &mut Script) {
         append(random, script, made.settings.lind, 8);
         script.call(Call::Create(made.settings));
     }
+}
+
+/// A made file with each other code, the other order's too, and then created anew over what it holds in each order.
+fn other_codes(random: &mut Random, script: &mut Script) {
+    let mut shape = files::shape(random, script.order);
+    shape.entries = shape.entries.max(1);
+    shape.spare_records += 400 / shape.settings.reclen as usize;
+    let made = make(random, &shape);
+    script.lend(&made.bytes, made.bytes.len());
+    for code in codes(script.order.code()) {
+        script.again();
+        script.poke(0, &code);
+        all_readings(random, script, &made, 1);
+        append(random, script, shape.settings.lind, 8);
+    }
+    for order in Order::BOTH {
+        script.again();
+        script.call(Call::Create(Settings { order: order as i32, ..shape.settings }));
+        script.call(Call::Validate);
+        append(random, script, shape.settings.lind, 8);
+        append(random, script, shape.settings.lind, 8);
+        read_all(script);
+        script.call(Call::Check);
+    }
+}
+
+/// A made file that goes over into the other order: its code, then integer after integer. In between it is read as it
+/// stands; when all are turned, the reference must read in it what it read before.
+fn turned_over(random: &mut Random, script: &mut Script) {
+    let shape = files::shape(random, script.order);
+    let made = make(random, &shape);
+    script.lend(&made.bytes, made.bytes.len());
+    read_all(script);
+    let read = script.asked.len();
+    for field in fields(&made) {
+        script.poke(field.at, &turned(&made, &field));
+        script.call(reading(random, &made, field.entry.max(1) as u64));
+    }
+    let after = script.asked.len();
+    read_all(script);
+    let answers = |asked: &[Asked]| asked.iter().map(|asked| asked.answer.fields.clone()).collect::<Vec<_>>();
+    let (before, after) = (answers(&script.asked[..read]), answers(&script.asked[after..]));
+    assert_eq!(before, after, "the reference does not read a file in both orders alike");
+    append(random, script, shape.settings.lind, 8);
+    script.call(Call::Check);
 }
 
 /// Puts a shape's entries out of order, lets them overlap or have 65 sections, once in so many times.
@@ -310,7 +364,7 @@ fn disorder(random: &mut Random, shape: &mut Shape, times: usize) {
 
 /// A file with one to three damages at a time.
 fn damaged(random: &mut Random, script: &mut Script) {
-    let mut shape = files::shape(random);
+    let mut shape = files::shape(random, script.order);
     shape.entries = shape.entries.max(1);
     disorder(random, &mut shape, 8);
     let made = make(random, &shape);
@@ -333,7 +387,7 @@ fn damaged(random: &mut Random, script: &mut Script) {
 
 /// A file as it was made, in order or not: everything in it is read.
 fn whole(random: &mut Random, script: &mut Script) {
-    let mut shape = files::shape(random);
+    let mut shape = files::shape(random, script.order);
     disorder(random, &mut shape, 2);
     let made = make(random, &shape);
     script.lend(&made.bytes, made.bytes.len());
@@ -365,7 +419,7 @@ fn read_all(script: &mut Script) {
 /// Creations with good settings and with one or more at an edge, over bytes of any content.
 fn creations(random: &mut Random, script: &mut Script) {
     for _ in 0..12 {
-        let mut settings = files::settings(random);
+        let mut settings = files::settings(random, script.order);
         let record = 4 * settings.reclen as usize;
         for _ in 0..random.pick(&[0, 0, 1, 1, 2]) {
             spoil_setting(random, &mut settings);
@@ -390,20 +444,21 @@ fn spoil_setting(random: &mut Random, s: &mut Settings) {
         let limit = random.pick(limits);
         random.pick(&[limit - 1, limit, limit + 1, 0, -1, i32::MAX, i32::MIN, any])
     };
-    match any.rem_euclid(7) {
+    match any.rem_euclid(8) {
         0 => s.reclen = edge(&[16, 4096]),
         1 => s.kind = edge(&[1, 3]),
         2 => s.vind = edge(&[2]),
         3 => s.lind = edge(&[3, 256]),
         4 => s.flags = edge(&[0, 1]),
         5 => s.lex1 = edge(&[1, 4096]),
-        _ => s.gex = edge(&[10, 20]),
+        6 => s.gex = edge(&[10, 20]),
+        _ => s.order = random.pick(&[0, 1, 2, 3, -1, 255, 256, 257, 1 << 16, 1 << 24, i32::MAX, i32::MIN, any]),
     }
 }
 
 /// Appends of every kind to a made file, also one that is not in order.
 fn appends(random: &mut Random, script: &mut Script) {
-    let mut shape = files::shape(random);
+    let mut shape = files::shape(random, script.order);
     disorder(random, &mut shape, 4);
     shape.spare_records = random.pick(&[0, 400, 1500]) / shape.settings.reclen as usize;
     let made = make(random, &shape);
@@ -442,7 +497,7 @@ fn fit_exactly(random: &mut Random, script: &mut Script, lind: i32) {
 /// A series of appends good and bad to a created file or to one in order: all entries are read before and after, and
 /// the order is checked.
 fn series(random: &mut Random, script: &mut Script) {
-    let mut shape = files::shape(random);
+    let mut shape = files::shape(random, script.order);
     shape.settings.lex1 += random.pick(&[0, 1, 6]);
     shape.spare_records = 1 + random.from(100, 9000) / shape.settings.reclen as usize;
     if random.once_in(2) {

@@ -140,6 +140,7 @@ static void poke(void) {
 /* Creates a file with the settings in the case. */
 static void call_create(uint8_t *bytes) {
     classic_settings s;
+    s.order = take_integer();
     s.reclen = take_integer();
     s.kind = take_integer();
     s.vind = take_integer();
@@ -157,6 +158,7 @@ static void call_create(uint8_t *bytes) {
 static void call_validate(const uint8_t *bytes) {
     classic_descriptor d = classic_validate(bytes, file.size);
     put(d.refusal);
+    put(d.order);
     put(d.reclen);
     put(d.kind);
     put(d.vind);

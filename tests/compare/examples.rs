@@ -1,14 +1,15 @@
-//! The examples that document 01 works by hand, with the capacities of Q-2 in document 02, as the first case: the
-//! reference must give the numbers written here, and the library is compared with the reference.
+//! The examples that document 01 works by hand, with the capacities of Q-2 in document 02 and in both orders of Q-4, as
+//! the first cases: the reference must give the numbers and bytes written here, and the library is compared with the
+//! reference.
 
 use crate::files::make_full;
 use crate::random::Random;
-use crate::reference::{Addition, Settings};
+use crate::reference::{Addition, Order, Settings};
 use crate::script::{Call, Script};
 
-/// The settings of file A, with another reclen, lind, lex1 and gex.
-fn settings(reclen: i32, lind: i32, lex1: i32, gex: i32) -> Settings {
-    Settings { reclen, kind: 1, vind: 2, lind, flags: 0, lex1, gex }
+/// The settings of file A in an order, with another reclen, lind, lex1 and gex.
+fn settings(order: Order, reclen: i32, lind: i32, lex1: i32, gex: i32) -> Settings {
+    Settings { order: order as i32, reclen, kind: 1, vind: 2, lind, flags: 0, lex1, gex }
 }
 
 /// Asks a call, and demands the first fields of its answer.
@@ -18,26 +19,44 @@ fn expect(script: &mut Script, example: &str, call: Call, fields: &[u64]) {
     assert_eq!(&given[..fields.len()], fields, "the reference fails {example}");
 }
 
-/// What appends (1), (2) and (3) of file A take.
+/// Demands bytes of the file from a word on, counted from 1.
+fn expect_bytes(script: &Script, word: usize, bytes: &[u8]) {
+    let at = 4 * (word - 1);
+    assert_eq!(&script.file[at..at + bytes.len()], bytes, "the reference fails the bytes of A at word {word}");
+}
+
+/// What appends (1), (2) and (3) of file A take: bytes of which no two in a row are alike.
 fn additions() -> [Addition; 3] {
-    let bare = Addition { version: 1, index: vec![9; 4], ..Addition::default() };
-    let full = Addition { ids: vec![7], lengths: vec![3], sections: vec![8; 12], data: vec![6; 20], ..bare.clone() };
+    let bare = Addition { version: 1, index: vec![1, 2, 3, 4], ..Addition::default() };
+    let (sections, data) = ((11..23).collect(), (31..51).collect());
+    let full = Addition { ids: vec![7], lengths: vec![3], sections, data, ..bare.clone() };
     [full, bare.clone(), bare]
 }
 
-/// The examples.
+/// The examples in the order of the case.
 pub fn examples(_: &mut Random, script: &mut Script) {
+    file_a(script);
+    crossing(script);
+    capacities(script);
+    great_capacities(script);
+    limits(script);
+}
+
+/// P1 to P5 and the listing: file A, and with a record fewer.
+fn file_a(script: &mut Script) {
     let [first, second, third] = additions();
+    let order = script.order as u64;
     for (records, refusal) in [(6, 0), (5, 24)] {
         script.lend(&vec![0xff; 80 * records], 80 * records);
-        expect(script, "creating A", Call::Create(settings(20, 4, 2, 20)), &[0]);
+        expect(script, "creating A", Call::Create(settings(script.order, 20, 4, 2, 20)), &[0]);
         expect(script, "append (1)", Call::Append(first.clone()), &[0, 1]);
         expect(script, "append (2)", Call::Append(second.clone()), &[0, 2]);
-        expect(script, "P3", Call::Validate, &[0, 20, 1, 2, 4, 0, 3, 4, 16, 2, 1, 20, 2, 0]);
+        expect(script, "P3", Call::Validate, &[0, order, 20, 1, 2, 4, 0, 3, 4, 16, 2, 1, 20, 2, 0]);
         expect(script, "P5", Call::Append(third.clone()), &[refusal, if refusal == 0 { 3 } else { 0 }]);
         expect(script, "the order of A", Call::Check, &[0, 0]);
         if refusal == 0 {
-            expect(script, "P4", Call::Validate, &[0, 20, 1, 2, 4, 0, 4, 6, 12, 2, 2, 20, 2, 5, 0]);
+            expect(script, "P4", Call::Validate, &[0, order, 20, 1, 2, 4, 0, 4, 6, 12, 2, 2, 20, 2, 5, 0]);
+            bytes_of_a(script);
         }
         expect(script, "line 1 and P1", Call::Open(1), &[0, 3, 1, 1, 1, 24, 20, 5, 7]);
         expect(script, "P1, the section", Call::Section(1, 7), &[0, 4 * (40 + 17 - 1), 12]);
@@ -45,35 +64,52 @@ pub fn examples(_: &mut Random, script: &mut Script) {
         expect(script, "line 2", Call::Open(2), &[0, 4, 5, 1, 0, 11, 0, 0]);
         expect(script, "P2", Call::IndexWords(2), &[0, 4 * (20 + 4 + 3), 4]);
     }
-    crossing(script);
-    capacities(script);
-    great_capacities(script);
-    limits(script);
+}
+
+/// Bytes of file A: code, reclen, xnext and the second address; the index of entry 2; code, nword, section identifier
+/// and length, section and data of entry 1.
+fn bytes_of_a(script: &Script) {
+    let integers: [(usize, &[u8], &[u8]); 8] = [
+        (1, &[0x32, 0x41, 0x20, 0x20], &[0x32, 0x42, 0x20, 0x20]),
+        (2, &[20, 0, 0, 0], &[0, 0, 0, 20]),
+        (7, &[4, 0, 0, 0, 0, 0, 0, 0], &[0, 0, 0, 0, 0, 0, 0, 4]),
+        (17, &[5, 0, 0, 0, 0, 0, 0, 0], &[0, 0, 0, 0, 0, 0, 0, 5]),
+        (25, &[4, 0, 0, 0, 0, 0, 0, 0, 5, 0, 0, 0], &[0, 0, 0, 0, 0, 0, 0, 4, 0, 0, 0, 5]),
+        (44, &[24, 0, 0, 0, 0, 0, 0, 0], &[0, 0, 0, 0, 0, 0, 0, 24]),
+        (52, &[7, 0, 0, 0], &[0, 0, 0, 7]),
+        (53, &[3, 0, 0, 0, 0, 0, 0, 0], &[0, 0, 0, 0, 0, 0, 0, 3]),
+    ];
+    for (word, little, big) in integers {
+        expect_bytes(script, word, if script.order == Order::Little { little } else { big });
+    }
+    expect_bytes(script, 28, &[1, 2, 3, 4]);
+    expect_bytes(script, 41, &[0x32, 0x20, 0x20, 0x20]);
+    expect_bytes(script, 57, &(11..23).chain(31..51).collect::<Vec<u8>>());
 }
 
 /// P6: the fourth index of reclen 16 and lind 5 stands at offset 15.
 fn crossing(script: &mut Script) {
     script.lend(&[0; 64 * 16], 64 * 16);
-    expect(script, "creating P6", Call::Create(settings(16, 5, 4, 10)), &[0]);
+    expect(script, "creating P6", Call::Create(settings(script.order, 16, 5, 4, 10)), &[0]);
     for number in 1..=4 {
         expect(script, "P6", Call::Append(Addition { index: vec![5; 8], ..Addition::default() }), &[0, number]);
     }
     expect(script, "P6", Call::IndexWords(4), &[0, 4 * (16 + 15 + 3), 8]);
 }
 
-/// Lends a file whose extensions, so many, are full.
-fn lend_full(script: &mut Script, settings: Settings, extensions: usize) {
-    let made = make_full(&settings, extensions, 0);
+/// Lends a file with such a reclen, lind, lex1 and gex, whose extensions, so many, are full.
+fn lend_full(script: &mut Script, [reclen, lind, lex1, gex]: [i32; 4], extensions: usize) {
+    let made = make_full(&settings(script.order, reclen, lind, lex1, gex), extensions, 0);
     script.lend(&made.bytes, made.bytes.len());
 }
 
 /// P7 and the capacities of Q-2, whose fraction is dropped once.
 fn capacities(script: &mut Script) {
-    let given: [(&str, Settings, &[u64]); 4] = [
-        ("P7", settings(22, 3, 5, 15), &[5, 7, 11, 16]),
-        ("Q-2", settings(24, 3, 1, 15), &[1, 1, 2, 3, 5]),
-        ("Q-2, gex 10", settings(24, 3, 7, 10), &[7, 7, 7, 7, 7]),
-        ("Q-2, gex 20", settings(24, 3, 3, 20), &[3, 6, 12, 24, 48]),
+    let given: [(&str, [i32; 4], &[u64]); 4] = [
+        ("P7", [22, 3, 5, 15], &[5, 7, 11, 16]),
+        ("Q-2", [24, 3, 1, 15], &[1, 1, 2, 3, 5]),
+        ("Q-2, gex 10", [24, 3, 7, 10], &[7, 7, 7, 7, 7]),
+        ("Q-2, gex 20", [24, 3, 3, 20], &[3, 6, 12, 24, 48]),
     ];
     for (example, settings, capacities) in given {
         lend_full(script, settings, capacities.len());
@@ -85,27 +121,31 @@ fn capacities(script: &mut Script) {
 
 /// P8, P9 and Q-2 with capacities up to 16,384 and past it.
 fn great_capacities(script: &mut Script) {
-    lend_full(script, settings(22, 3, 4096, 20), 3);
-    expect(script, "P8, nex 3", Call::Validate, &[0, 22]);
-    script.poke(4 * 12, &[4, 0, 0, 0]);
-    expect(script, "P8, nex 4", Call::Validate, &[8, 0]);
-    lend_full(script, settings(46, 3, 4096, 10), 16);
-    expect(script, "P9", Call::Validate, &[0, 46, 1, 2, 3, 0, 65537]);
-    lend_full(script, settings(46, 3, 1, 20), 15);
-    expect(script, "Q-2, gex 20, nex 15", Call::Validate, &[0, 46, 1, 2, 3, 0, 32768]);
+    let order = script.order as u64;
+    let poke_nex = |script: &mut Script, nex: i32| script.poke(4 * 12, &script.order.bytes4(nex));
+    lend_full(script, [22, 3, 4096, 20], 3);
+    expect(script, "P8, nex 3", Call::Validate, &[0, order, 22]);
+    poke_nex(script, 4);
+    expect(script, "P8, nex 4", Call::Validate, &[8, 0, 0]);
+    lend_full(script, [46, 3, 4096, 10], 16);
+    expect(script, "P9", Call::Validate, &[0, order, 46, 1, 2, 3, 0, 65537]);
+    lend_full(script, [46, 3, 1, 20], 15);
+    expect(script, "Q-2, gex 20, nex 15", Call::Validate, &[0, order, 46, 1, 2, 3, 0, 32768]);
     expect(script, "Q-2, gex 20, nex 15", Call::ExtensionOf(15), &[0, 16384]);
-    script.poke(4 * 12, &[16, 0, 0, 0]);
-    expect(script, "Q-2, gex 20, nex 16", Call::Validate, &[8, 0]);
-    lend_full(script, settings(46, 3, 2, 18), 16);
-    expect(script, "Q-2, gex 18, nex 16", Call::Validate, &[0, 46, 1, 2, 3, 0, 30351]);
+    poke_nex(script, 16);
+    expect(script, "Q-2, gex 20, nex 16", Call::Validate, &[8, 0, 0]);
+    lend_full(script, [46, 3, 2, 18], 16);
+    expect(script, "Q-2, gex 18, nex 16", Call::Validate, &[0, order, 46, 1, 2, 3, 0, 30351]);
     expect(script, "Q-2, gex 18, nex 16", Call::ExtensionOf(16), &[0, 13493]);
 }
 
-/// P10 to P12: reclen 15 and 16, lind 2 and 3, eight bytes FF.
+/// P10 to P12: reclen 15 and 16, lind 2 and 3, eight bytes FF; and Q-4: an order that is neither, also with reclen 15.
 fn limits(script: &mut Script) {
     script.lend(&[0; 960], 960);
     for (reclen, lind, refusal) in [(15, 3, 3), (16, 3, 0), (16, 2, 6), (16, 3, 0)] {
-        expect(script, "P10 and P11", Call::Create(settings(reclen, lind, 1, 10)), &[refusal]);
+        let settings = settings(script.order, reclen, lind, 1, 10);
+        expect(script, "P10 and P11", Call::Create(settings), &[refusal]);
+        expect(script, "Q-4, order 2", Call::Create(Settings { order: 2, ..settings }), &[2]);
     }
     expect(script, "P12", Call::Append(Addition::default()), &[0, 1]);
     script.poke(4 * (16 + 16 + 5), &[0xff; 8]);

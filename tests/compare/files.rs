@@ -2,7 +2,7 @@
 //! in any admitted place, with gaps and spare room.
 
 use crate::random::Random;
-use crate::reference::{capacity, mex, Settings, ENTRY_CODE, FILE_CODE};
+use crate::reference::{capacity, mex, Order, Settings, ENTRY_CODE};
 
 /// A made file and where its things stand, in word positions counted from 0.
 pub struct Made {
@@ -39,21 +39,38 @@ enum Block {
 }
 
 impl Made {
+    /// The file's order.
+    pub fn order(&self) -> Order {
+        order_of(&self.settings)
+    }
+
     /// The Integer*4 at a byte.
     pub fn integer4(&self, at: usize) -> i64 {
-        let b = &self.bytes[at..at + 4];
-        i32::from_le_bytes([b[0], b[1], b[2], b[3]]) as i64
+        let bytes = std::array::from_fn(|i| self.bytes[at + i]);
+        match self.order() {
+            Order::Little => i32::from_le_bytes(bytes) as i64,
+            Order::Big => i32::from_be_bytes(bytes) as i64,
+        }
     }
 
     /// The Integer*8 at a byte.
     pub fn integer8(&self, at: usize) -> i64 {
-        (self.integer4(at) & 0xffff_ffff) | (self.integer4(at + 4) << 32)
+        let (low, high) = match self.order() {
+            Order::Little => (self.integer4(at), self.integer4(at + 4)),
+            Order::Big => (self.integer4(at + 4), self.integer4(at)),
+        };
+        (low & 0xffff_ffff) | (high << 32)
     }
 
     /// The record length in words.
     pub fn reclen(&self) -> usize {
         self.settings.reclen as usize
     }
+}
+
+/// The order in settings of a file that is made.
+fn order_of(s: &Settings) -> Order {
+    Order::of_setting(s.order).expect("a file is made in one of the two orders")
 }
 
 /// The capacity of extension k, counted from 1.
@@ -81,8 +98,8 @@ pub fn round_up(size: usize, unit: usize) -> usize {
     (size + unit - 1) / unit * unit
 }
 
-/// Random settings: mostly small, some at the limits.
-pub fn settings(random: &mut Random) -> Settings {
+/// Random settings in an order: mostly small, some at the limits.
+pub fn settings(random: &mut Random, order: Order) -> Settings {
     let reclen = match random.from(1, 12) {
         1..=3 => random.from(16, 18),
         4..=7 => random.from(19, 32),
@@ -103,6 +120,7 @@ pub fn settings(random: &mut Random) -> Settings {
         _ => random.from(1, 3),
     };
     Settings {
+        order: order as i32,
         reclen: reclen as i32,
         kind: random.from(1, 3) as i32,
         vind: random.pick(&[2, 2, 3, 77, i32::MAX]),
@@ -113,9 +131,9 @@ pub fn settings(random: &mut Random) -> Settings {
     }
 }
 
-/// A random shape: up to five extensions, often with the last one full.
-pub fn shape(random: &mut Random) -> Shape {
-    let settings = settings(random);
+/// A random shape in an order: up to five extensions, often with the last one full.
+pub fn shape(random: &mut Random, order: Order) -> Shape {
+    let settings = settings(random, order);
     let most = most_extensions(&settings).min(5);
     let extensions = random.from(0, most);
     let entries = match extensions {
@@ -165,7 +183,7 @@ pub fn make(random: &mut Random, shape: &Shape) -> Made {
     for (i, (content, ids)) in contents.into_iter().enumerate() {
         let slot = slot(&s, &made.areas, i);
         put(&mut made.bytes, starts[i], &content);
-        put(&mut made.bytes, slot, &place(starts[i], reclen));
+        put(&mut made.bytes, slot, &place(&s, starts[i]));
         let words = random.bytes(4 * (s.lind as usize - 3));
         put(&mut made.bytes, slot + 3, &words);
         made.entries.push(Placed { slot, start: starts[i], ids });
@@ -189,14 +207,14 @@ pub fn make_full(settings: &Settings, extensions: usize, spare_records: usize) -
 
 /// Puts an entry without sections and data at the next free position of a file made full, and its index.
 pub fn put_bare(made: &mut Made, number: usize) {
-    let (start, reclen) = (made.free, made.reclen());
-    let slot = slot(&made.settings, &made.areas, number - 1);
+    let (s, order, start) = (made.settings, made.order(), made.free);
+    let slot = slot(&s, &made.areas, number - 1);
     put(&mut made.bytes, start, &ENTRY_CODE);
-    put(&mut made.bytes, start + 3, &11i64.to_le_bytes());
-    put(&mut made.bytes, start + 9, &(number as i64).to_le_bytes());
-    put(&mut made.bytes, slot, &place(start, reclen));
+    put(&mut made.bytes, start + 3, &order.bytes8(11));
+    put(&mut made.bytes, start + 9, &order.bytes8(number as i64));
+    put(&mut made.bytes, slot, &place(&s, start));
     made.free = start + 11;
-    put(&mut made.bytes, 8, &place(made.free, reclen));
+    put(&mut made.bytes, 8, &place(&s, made.free));
 }
 
 /// The blocks of a file: each area with its entries after it, or in a shuffled file the entries anywhere.
@@ -236,6 +254,7 @@ fn gap(random: &mut Random, shape: &Shape, bound: usize) -> usize {
 
 /// The bytes of an entry and its identifiers: sections and data in any order, with gaps and room for more sections.
 fn entry(random: &mut Random, shape: &Shape, number: usize) -> (Vec<u8>, Vec<i32>) {
+    let order = order_of(&shape.settings);
     let nsec = random.from(shape.least_sections, shape.most_sections);
     let ids = identifiers(random, nsec);
     let ldata = if random.once_in(3) { 0 } else { random.from(1, 20) };
@@ -250,24 +269,25 @@ fn entry(random: &mut Random, shape: &Shape, number: usize) -> (Vec<u8>, Vec<i32
         address += lengths[piece];
     }
     let nword = address - 1 + gap(random, shape, 4);
-    let adata = if ldata == 0 { random.pick(&[0, -1, 5, i64::MIN]) } else { addresses[nsec] as i64 };
+    let adata =
+        if ldata == 0 { random.pick(&[0, -1, 5, i64::MIN, 0x0102_0304_0506_0708]) } else { addresses[nsec] as i64 };
     let mut bytes = random.bytes(4 * nword);
     put(&mut bytes, 0, &ENTRY_CODE);
-    put(&mut bytes, 2, &(nsec as i32).to_le_bytes());
+    put(&mut bytes, 2, &order.bytes4(nsec as i32));
     for (word, value) in [(3, nword as i64), (5, adata), (7, ldata as i64), (9, number as i64)] {
-        put(&mut bytes, word, &value.to_le_bytes());
+        put(&mut bytes, word, &order.bytes8(value));
     }
     for i in 0..nsec {
-        put(&mut bytes, 11 + i, &ids[i].to_le_bytes());
-        put(&mut bytes, 11 + nsec + 2 * i, &(lengths[i] as i64).to_le_bytes());
-        put(&mut bytes, 11 + 3 * nsec + 2 * i, &(addresses[i] as i64).to_le_bytes());
+        put(&mut bytes, 11 + i, &order.bytes4(ids[i]));
+        put(&mut bytes, 11 + nsec + 2 * i, &order.bytes8(lengths[i] as i64));
+        put(&mut bytes, 11 + 3 * nsec + 2 * i, &order.bytes8(addresses[i] as i64));
     }
     (bytes, ids)
 }
 
 /// Random identifiers: mostly apart, small or of any size, sometimes one twice.
 fn identifiers(random: &mut Random, count: usize) -> Vec<i32> {
-    let first = random.pick(&[-3, 0, 1, i32::MIN, i32::MAX - 100]);
+    let first = random.pick(&[-3, 0, 1, 0x0102_0304, i32::MIN, i32::MAX - 100]);
     let mut ids: Vec<i32> = (0..count as i32).map(|i| first + i).collect();
     random.shuffle(&mut ids);
     if count > 1 && random.once_in(6) {
@@ -278,26 +298,26 @@ fn identifiers(random: &mut Random, count: usize) -> Vec<i32> {
 
 /// Writes the first record's fields; the rest of the record stays.
 fn put_first_record(made: &mut Made, entries: usize) {
-    let s = made.settings;
-    let reclen = made.reclen();
-    put(&mut made.bytes, 0, &FILE_CODE);
+    let (s, order, reclen) = (made.settings, made.order(), made.reclen());
+    put(&mut made.bytes, 0, &order.code());
     let nex = made.areas.len() as i32;
     for (word, value) in
         [(1, s.reclen), (2, s.kind), (3, s.vind), (4, s.lind), (5, s.flags), (11, s.lex1), (12, nex), (13, s.gex)]
     {
-        put(&mut made.bytes, word, &value.to_le_bytes());
+        put(&mut made.bytes, word, &order.bytes4(value));
     }
-    put(&mut made.bytes, 6, &(entries as i64 + 1).to_le_bytes());
-    put(&mut made.bytes, 8, &place(made.free, reclen));
+    put(&mut made.bytes, 6, &order.bytes8(entries as i64 + 1));
+    put(&mut made.bytes, 8, &place(&s, made.free));
     for (k, area) in made.areas.iter().enumerate() {
-        put(&mut made.bytes, 14 + 2 * k, &((area / reclen) as i64 + 1).to_le_bytes());
+        put(&mut made.bytes, 14 + 2 * k, &order.bytes8((area / reclen) as i64 + 1));
     }
 }
 
 /// A position as a record number and a word number: three words.
-fn place(position: usize, reclen: usize) -> Vec<u8> {
-    let mut words = ((position / reclen) as i64 + 1).to_le_bytes().to_vec();
-    words.extend(((position % reclen) as i32 + 1).to_le_bytes());
+fn place(s: &Settings, position: usize) -> Vec<u8> {
+    let (order, reclen) = (order_of(s), s.reclen as usize);
+    let mut words = order.bytes8((position / reclen) as i64 + 1).to_vec();
+    words.extend(order.bytes4((position % reclen) as i32 + 1));
     words
 }
 

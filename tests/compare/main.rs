@@ -1,4 +1,4 @@
-//! The comparison of the library, behind its C interface, with the independent implementation.
+//! The comparison of the library, behind its C interface, with the independent implementation, in both byte orders.
 //! Usage: compare [--seed N] [--case K] DRIVER...: all cases of a seed, or one, with the command that runs the driver.
 
 mod additions;
@@ -14,6 +14,7 @@ mod script;
 mod table;
 
 use driver::{Driver, Given};
+use reference::Order;
 use script::{Asked, Call, Script, CALLS};
 use table::Table;
 
@@ -23,29 +24,39 @@ const SHOWN: usize = 20;
 /// After so many deaths of the driver the other cases are not run.
 const DEATHS: usize = 5;
 
-/// The calls that a run must make at least.
+/// The calls that a run must make at least in each order.
 const ENOUGH: usize = 100_000;
 
 /// What the command line asks for.
+#[derive(Default)]
 struct Options {
     seed: u64,
     case: Option<usize>,
     driver: Vec<String>,
 }
 
-/// What was compared and what differed so far; calls in the order of CALLS.
+/// What was compared and what differed so far: calls by their place in CALLS and by the number of their order, series by
+/// the number of theirs.
+#[derive(Default)]
 struct Comparison {
     options: Options,
     calls: [usize; CALLS.len()],
+    calls_by_order: [usize; 2],
     differing: [usize; CALLS.len()],
     files: usize,
     differing_files: usize,
-    series: usize,
-    failed_series: usize,
-    series_accepted: usize,
-    series_refused: usize,
+    series: [Series; 2],
     shown: usize,
     table: Table,
+}
+
+/// The series of one order: how many, how many that fail demand 3, and the appends in them.
+#[derive(Default)]
+struct Series {
+    made: usize,
+    failed: usize,
+    accepted: usize,
+    refused: usize,
 }
 
 /// Tests that passed and failed.
@@ -88,6 +99,7 @@ impl Comparison {
         for (i, asked) in script.asked.iter().enumerate() {
             let answer = if sent { driver.answer(asked).ok() } else { None };
             self.calls[asked.call.number()] += 1;
+            self.calls_by_order[asked.order as usize] += 1;
             match answer {
                 Some(answer) => {
                     self.compare(case, i, asked, &answer);
@@ -108,13 +120,14 @@ impl Comparison {
 
     /// Holds a series to demand 3.
     fn compare_series(&mut self, case: usize, script: &Script, given: &[Given]) {
-        self.series += 1;
         let appends = script.asked.iter().zip(given).filter(|(asked, _)| matches!(asked.call, Call::Append(_)));
         let (accepted, refused): (Vec<_>, Vec<_>) = appends.partition(|(_, given)| given.fields[0] == 0);
-        self.series_accepted += accepted.len();
-        self.series_refused += refused.len();
+        let series = &mut self.series[script.order as usize];
+        series.made += 1;
+        series.accepted += accepted.len();
+        series.refused += refused.len();
         if let Some(fault) = demand::fault(&script.lent, &script.asked, given) {
-            self.failed_series += 1;
+            series.failed += 1;
             self.show(case, given.len() - 1, &format!("demand 3: {fault}"));
         }
     }
@@ -130,7 +143,7 @@ impl Comparison {
                 format!("{field} is {theirs} by the library, {ours} by the reference ({})", asked.answer.reason());
             self.show(case, i, &format!("{}: {what}", asked.call.described()));
         } else {
-            self.table.count(call, &asked.answer);
+            self.table.count(asked);
         }
         if let (Some(ours), Some(theirs)) = (&asked.after, &given.after) {
             self.files += 1;
@@ -177,20 +190,23 @@ impl Comparison {
             judge(name, "calls", self.calls[call], self.differing[call]);
         }
         judge("bytes", "files after create and append", self.files, self.differing_files);
-        let series =
-            format!("series with {} appends accepted and {} refused", self.series_accepted, self.series_refused);
-        judge("demand 3", &series, self.series, self.failed_series);
+        for (order, series) in Order::BOTH.iter().zip(&self.series) {
+            let appends = format!("series with {} appends accepted and {} refused", series.accepted, series.refused);
+            judge(&format!("demand 3, {}", order.name()), &appends, series.made, series.failed);
+        }
     }
 
     /// Judges how much was compared: the table, the ways, the count of calls.
     fn judge_coverage(&self, verdict: &mut Verdict) {
         self.table.print();
         let wrong = self.table.wrong_cells();
-        verdict.test("table", wrong.is_empty(), &format!("cells not as 01 admits them: {}", listed(&wrong)));
+        verdict.test("table", wrong.is_empty(), &format!("cells not as 01 and 02 admit them: {}", listed(&wrong)));
         let missing = self.table.missing_ways();
         verdict.test("ways", missing.is_empty(), &format!("reasons of a refusal not seen: {}", listed(&missing)));
-        let calls: usize = self.calls.iter().sum();
-        verdict.test("count", calls >= ENOUGH, &format!("{calls} calls, {ENOUGH} wanted"));
+        for (order, calls) in Order::BOTH.iter().zip(self.calls_by_order) {
+            let name = format!("count, {}", order.name());
+            verdict.test(&name, calls >= ENOUGH, &format!("{calls} calls, {ENOUGH} wanted"));
+        }
     }
 }
 
@@ -218,7 +234,7 @@ fn listed(list: &[String]) -> String {
 
 /// Reads the command line.
 fn options() -> Result<Options, String> {
-    let mut options = Options { seed: 1, case: None, driver: vec![] };
+    let mut options = Options { seed: 1, ..Options::default() };
     let mut words = std::env::args().skip(1);
     while let Some(word) = words.next() {
         if !word.starts_with("--") {
@@ -248,19 +264,8 @@ fn give_up(fault: &str) -> ! {
 
 fn main() {
     let began = std::time::Instant::now();
-    let mut comparison = Comparison {
-        options: options().unwrap_or_else(|fault| give_up(&fault)),
-        calls: [0; CALLS.len()],
-        differing: [0; CALLS.len()],
-        files: 0,
-        differing_files: 0,
-        series: 0,
-        failed_series: 0,
-        series_accepted: 0,
-        series_refused: 0,
-        shown: 0,
-        table: Table::default(),
-    };
+    let options = options().unwrap_or_else(|fault| give_up(&fault));
+    let mut comparison = Comparison { options, ..Comparison::default() };
     if let Err(fault) = comparison.run() {
         give_up(&format!("{}: {fault}", comparison.options.driver.join(" ")));
     }

@@ -1,9 +1,16 @@
-//! The independent implementation of document 01, with the capacities of Q-2 in document 02, plain and slow, over the
-//! lent bytes of a file: written from these papers and the memo alone. Every number is an i128, so that no sum or
-//! product of stored numbers can wrap.
+//! The independent implementation of document 01, with the capacities of Q-2 and the byte orders of Q-4 in document 02,
+//! plain and slow, over the lent bytes of a file: written from these papers and the memo alone. Every number is an
+//! i128, so that no sum or product of stored numbers can wrap.
 
-pub const FILE_CODE: [u8; 4] = [0x32, 0x41, 0x20, 0x20];
+/// The code of an entry, in files of both orders.
 pub const ENTRY_CODE: [u8; 4] = [0x32, 0x20, 0x20, 0x20];
+
+/// The order of the bytes of a file's integers, with its number as a setting.
+#[derive(Clone, Copy, Debug, PartialEq)]
+pub enum Order {
+    Little = 0,
+    Big = 1,
+}
 
 /// A refusal: its number, and which part of that number's sentence in 01 was broken.
 #[derive(Clone, Copy)]
@@ -15,6 +22,7 @@ pub struct Refusal {
 /// The settings of a file, as creation takes them.
 #[derive(Clone, Copy, Debug)]
 pub struct Settings {
+    pub order: i32,
     pub reclen: i32,
     pub kind: i32,
     pub vind: i32,
@@ -26,6 +34,7 @@ pub struct Settings {
 
 /// The fields of an admitted first record; aex has nex places.
 pub struct Descriptor {
+    pub order: Order,
     pub reclen: i128,
     pub kind: i128,
     pub vind: i128,
@@ -83,21 +92,10 @@ fn refuse<T>(number: u32, way: &'static str) -> Result<T, Refusal> {
     Err(Refusal { number, way })
 }
 
-/// The four bytes at a word position, counted from 0.
-fn bytes_at(file: &[u8], position: i128) -> [u8; 4] {
+/// The bytes at a word position, counted from 0.
+fn bytes_at<const COUNT: usize>(file: &[u8], position: i128) -> [u8; COUNT] {
     let at = 4 * position as usize;
-    [file[at], file[at + 1], file[at + 2], file[at + 3]]
-}
-
-/// The Integer*4 at a word position.
-fn integer4(file: &[u8], position: i128) -> i128 {
-    i32::from_le_bytes(bytes_at(file, position)) as i128
-}
-
-/// The Integer*8 at a word position: the low word comes first.
-fn integer8(file: &[u8], position: i128) -> i128 {
-    let low = u32::from_le_bytes(bytes_at(file, position));
-    integer4(file, position + 1) * (1 << 32) + low as i128
+    std::array::from_fn(|i| file[at + i])
 }
 
 /// Writes bytes at a word position.
@@ -106,14 +104,79 @@ fn put(file: &mut [u8], position: i128, bytes: &[u8]) {
     file[at..at + bytes.len()].copy_from_slice(bytes);
 }
 
-/// Writes an Integer*4 at a word position.
-fn put4(file: &mut [u8], position: i128, value: i128) {
-    put(file, position, &(value as i32).to_le_bytes());
-}
+impl Order {
+    /// Both orders.
+    pub const BOTH: [Order; 2] = [Order::Little, Order::Big];
 
-/// Writes an Integer*8 at a word position.
-fn put8(file: &mut [u8], position: i128, value: i128) {
-    put(file, position, &(value as i64).to_le_bytes());
+    /// What the order is called.
+    pub fn name(self) -> &'static str {
+        match self {
+            Order::Little => "little-endian",
+            Order::Big => "big-endian",
+        }
+    }
+
+    /// The code of a file with this order.
+    pub fn code(self) -> [u8; 4] {
+        match self {
+            Order::Little => [0x32, 0x41, 0x20, 0x20],
+            Order::Big => [0x32, 0x42, 0x20, 0x20],
+        }
+    }
+
+    /// The order that the code of a file says, if the file begins with one of the two.
+    pub fn of_file(file: &[u8]) -> Option<Order> {
+        Order::BOTH.into_iter().find(|order| file.starts_with(&order.code()))
+    }
+
+    /// The order that has a number as a setting, if there is one.
+    pub fn of_setting(number: i32) -> Option<Order> {
+        Order::BOTH.into_iter().find(|&order| order as i32 == number)
+    }
+
+    /// The bytes of an Integer*4.
+    pub fn bytes4(self, value: i32) -> [u8; 4] {
+        match self {
+            Order::Little => value.to_le_bytes(),
+            Order::Big => value.to_be_bytes(),
+        }
+    }
+
+    /// The bytes of an Integer*8: in the big order all eight come the most significant first.
+    pub fn bytes8(self, value: i64) -> [u8; 8] {
+        match self {
+            Order::Little => value.to_le_bytes(),
+            Order::Big => value.to_be_bytes(),
+        }
+    }
+
+    /// The Integer*4 at a word position.
+    fn integer4(self, file: &[u8], position: i128) -> i128 {
+        let bytes = bytes_at(file, position);
+        match self {
+            Order::Little => i32::from_le_bytes(bytes) as i128,
+            Order::Big => i32::from_be_bytes(bytes) as i128,
+        }
+    }
+
+    /// The Integer*8 at a word position.
+    fn integer8(self, file: &[u8], position: i128) -> i128 {
+        let bytes = bytes_at(file, position);
+        match self {
+            Order::Little => i64::from_le_bytes(bytes) as i128,
+            Order::Big => i64::from_be_bytes(bytes) as i128,
+        }
+    }
+
+    /// Writes an Integer*4 at a word position.
+    fn put4(self, file: &mut [u8], position: i128, value: i128) {
+        put(file, position, &self.bytes4(value as i32));
+    }
+
+    /// Writes an Integer*8 at a word position.
+    fn put8(self, file: &mut [u8], position: i128, value: i128) {
+        put(file, position, &self.bytes8(value as i64));
+    }
 }
 
 /// The whole units that a size takes.
@@ -300,12 +363,13 @@ fn test_areas(d: &Descriptor) -> Result<(), Refusal> {
 /// Validates the first record: refusals 1 to 11.
 pub fn validate(file: &[u8]) -> Result<Descriptor, Refusal> {
     test_enough_lent(file.len())?;
-    if file[0..4] != FILE_CODE {
+    let Some(order) = Order::of_file(file) else {
         return refuse(2, "code");
-    }
-    let field4 = |word: i128| integer4(file, word - 1);
-    let field8 = |word: i128| integer8(file, word - 1);
+    };
+    let field4 = |word: i128| order.integer4(file, word - 1);
+    let field8 = |word: i128| order.integer8(file, word - 1);
     let settings = Settings {
+        order: order as i32,
         reclen: field4(2) as i32,
         kind: field4(3) as i32,
         vind: field4(4) as i32,
@@ -317,6 +381,7 @@ pub fn validate(file: &[u8]) -> Result<Descriptor, Refusal> {
     let nex = field4(13);
     test_settings(file.len(), &settings, nex)?;
     let d = Descriptor {
+        order,
         reclen: field4(2),
         kind: field4(3),
         vind: field4(4),
@@ -360,7 +425,7 @@ fn open_in(file: &[u8], d: &Descriptor, number: u64) -> Result<Entry, Refusal> {
         return refuse(12, "above the last");
     }
     let slot = d.slot(asked);
-    let (record, word) = (integer8(file, slot), integer4(file, slot + 2));
+    let (record, word) = (d.order.integer8(file, slot), d.order.integer4(file, slot + 2));
     if record < 2 {
         return refuse(13, "record");
     }
@@ -374,8 +439,8 @@ fn open_in(file: &[u8], d: &Descriptor, number: u64) -> Result<Entry, Refusal> {
     if bytes_at(file, start) != ENTRY_CODE {
         return refuse(14, "entry code");
     }
-    let field4 = |word: i128| integer4(file, start + word - 1);
-    let field8 = |word: i128| integer8(file, start + word - 1);
+    let field4 = |word: i128| d.order.integer4(file, start + word - 1);
+    let field8 = |word: i128| d.order.integer8(file, start + word - 1);
     let (nsec, nword) = (field4(3), field8(4));
     if !(0..=64).contains(&nsec) {
         return refuse(15, "nsec");
@@ -510,19 +575,22 @@ fn test_order(d: &Descriptor, number: u64, entry: &Entry, before: i128) -> Resul
     Ok(())
 }
 
-/// Creates a file: refusals 1 and 3 to 8 on the settings, then the first record.
+/// Creates a file: refusals 1 to 8 on the settings, then the first record.
 pub fn create(file: &mut [u8], s: &Settings) -> Result<(), Refusal> {
     test_enough_lent(file.len())?;
+    let Some(order) = Order::of_setting(s.order) else {
+        return refuse(2, "order");
+    };
     test_settings(file.len(), s, 0)?;
     file[..4 * s.reclen as usize].fill(0);
-    put(file, 0, &FILE_CODE);
+    put(file, 0, &order.code());
     let fields =
         [(2, s.reclen), (3, s.kind), (4, s.vind), (5, s.lind), (6, s.flags), (11, 1), (12, s.lex1), (14, s.gex)];
     for (word, value) in fields {
-        put4(file, word - 1, value as i128);
+        order.put4(file, word - 1, value as i128);
     }
-    put8(file, 7 - 1, 1);
-    put8(file, 9 - 1, 2);
+    order.put8(file, 7 - 1, 1);
+    order.put8(file, 9 - 1, 2);
     Ok(())
 }
 
@@ -578,7 +646,7 @@ pub fn append(file: &mut [u8], a: &Addition) -> Result<u64, Refusal> {
         d.aex.push(before + 1);
         start = (before + d.records(capacity)) * d.reclen;
     }
-    let words = entry_words(number, a);
+    let words = entry_words(d.order, number, a);
     let end = start + words.len() as i128 / 4;
     if end > file.len() as i128 / 4 {
         return refuse(24, if grows { "with a new area" } else { "without a new area" });
@@ -586,39 +654,39 @@ pub fn append(file: &mut [u8], a: &Addition) -> Result<u64, Refusal> {
     file[4 * free as usize..4 * start as usize].fill(0);
     put(file, start, &words);
     let slot = d.slot(number);
-    put8(file, slot, start / d.reclen + 1);
-    put4(file, slot + 2, start % d.reclen + 1);
+    d.order.put8(file, slot, start / d.reclen + 1);
+    d.order.put4(file, slot + 2, start % d.reclen + 1);
     put(file, slot + 3, &a.index);
-    put8(file, 7 - 1, number + 1);
-    put8(file, 9 - 1, end / d.reclen + 1);
-    put4(file, 11 - 1, end % d.reclen + 1);
+    d.order.put8(file, 7 - 1, number + 1);
+    d.order.put8(file, 9 - 1, end / d.reclen + 1);
+    d.order.put4(file, 11 - 1, end % d.reclen + 1);
     if grows {
-        put4(file, 13 - 1, d.nex);
-        put8(file, 15 + 2 * (d.nex - 1) - 1, d.aex[(d.nex - 1) as usize]);
+        d.order.put4(file, 13 - 1, d.nex);
+        d.order.put8(file, 15 + 2 * (d.nex - 1) - 1, d.aex[(d.nex - 1) as usize]);
     }
     Ok(number as u64)
 }
 
 /// The bytes of an appended entry: descriptor without spare room, sections in order, data.
-fn entry_words(number: i128, a: &Addition) -> Vec<u8> {
+fn entry_words(order: Order, number: i128, a: &Addition) -> Vec<u8> {
     let content = 12 + 5 * a.ids.len() as i128;
     let adata = if a.data.is_empty() { 0 } else { content + sum(&a.lengths) };
     let ldata = a.data.len() as i128 / 4;
     let nword = content - 1 + sum(&a.lengths) + ldata;
     let mut words = ENTRY_CODE.to_vec();
-    words.extend(a.version.to_le_bytes());
-    words.extend((a.ids.len() as i32).to_le_bytes());
+    words.extend(order.bytes4(a.version));
+    words.extend(order.bytes4(a.ids.len() as i32));
     for value in [nword, adata, ldata, number] {
-        words.extend((value as i64).to_le_bytes());
+        words.extend(order.bytes8(value as i64));
     }
-    for id in &a.ids {
-        words.extend(id.to_le_bytes());
+    for &id in &a.ids {
+        words.extend(order.bytes4(id));
     }
-    for length in &a.lengths {
-        words.extend(length.to_le_bytes());
+    for &length in &a.lengths {
+        words.extend(order.bytes8(length));
     }
     for i in 0..a.ids.len() {
-        words.extend(((content + sum(&a.lengths[..i])) as i64).to_le_bytes());
+        words.extend(order.bytes8((content + sum(&a.lengths[..i])) as i64));
     }
     words.extend(&a.sections);
     words.extend(&a.data);

@@ -1,7 +1,7 @@
 //! A script is one case: a file, changes to it and calls, as the driver reads them, and for each call the answer
 //! that the reference gives at that place.
 
-use crate::reference::{self, Addition, Refusal, Settings};
+use crate::reference::{self, Addition, Order, Refusal, Settings};
 
 /// The calls of the interface, in the order of their numbers in the driver's protocol.
 pub const CALLS: [&str; 9] =
@@ -28,23 +28,25 @@ pub struct Answer {
     pub fields: Vec<u64>,
 }
 
-/// A call of a script, the reference's answer, and after a creation or append the file's bytes.
+/// A call of a script, the order that it counts for, the reference's answer, and after a creation or append the file's
+/// bytes.
 pub struct Asked {
+    pub order: Order,
     pub call: Call,
     pub answer: Answer,
     pub after: Option<Vec<u8>>,
 }
 
-/// A case as it grows: the driver's message, the calls asked so far, the file as lent and as it is now; whose turn it
-/// is to lend empty slices as (NULL, 0); and, where a call is watched, the file before it.
-#[derive(Default)]
+/// A case as it grows: the order of its files, and its place among the cases of its kind and order; the driver's
+/// message, the calls asked so far, the file as lent and as it is now; and, where a call is watched, the file before it.
 pub struct Script {
+    pub order: Order,
+    pub turn: usize,
     pub message: Vec<u8>,
     pub asked: Vec<Asked>,
     pub lent: Vec<u8>,
     pub file: Vec<u8>,
-    pub turn: usize,
-    pub watched: Option<usize>,
+    watched: Option<usize>,
     pub watched_file: Vec<u8>,
 }
 
@@ -79,8 +81,8 @@ impl Call {
         let names: &[&str] = match self {
             Call::Create(_) => &["refusal"],
             Call::Validate => &[
-                "refusal", "reclen", "kind", "vind", "lind", "flags", "xnext", "nextrec", "nextword", "lex1", "nex",
-                "gex",
+                "refusal", "order", "reclen", "kind", "vind", "lind", "flags", "xnext", "nextrec", "nextword", "lex1",
+                "nex", "gex",
             ],
             Call::ExtensionOf(_) => &["refusal", "capacity", "first", "records"],
             Call::Open(_) => &["refusal", "record", "word", "version", "nsec", "nword", "adata", "ldata"],
@@ -116,7 +118,7 @@ impl Call {
     fn answer(&self, file: &mut [u8]) -> Answer {
         match self {
             Call::Create(settings) => refusal_first(reference::create(file, settings).map(|()| vec![]), 0),
-            Call::Validate => refusal_first(reference::validate(file).map(|d| descriptor_fields(&d)), 27),
+            Call::Validate => refusal_first(reference::validate(file).map(|d| descriptor_fields(&d)), 12 + 16),
             Call::ExtensionOf(k) => {
                 refusal_first(reference::extension_of(file, *k).map(|e| vec![e.capacity, e.first, e.records]), 3)
             }
@@ -135,7 +137,7 @@ impl Call {
         out.push(null as u8);
         match self {
             Call::Create(s) => {
-                for value in [s.reclen, s.kind, s.vind, s.lind, s.flags, s.lex1, s.gex] {
+                for value in [s.order, s.reclen, s.kind, s.vind, s.lind, s.flags, s.lex1, s.gex] {
                     out.extend(value.to_le_bytes());
                 }
             }
@@ -191,10 +193,10 @@ fn check(result: Result<(), (u64, Refusal)>) -> Answer {
 
 /// The fields of a descriptor, with 16 places of addresses.
 fn descriptor_fields(d: &reference::Descriptor) -> Vec<i128> {
-    let mut fields =
-        vec![d.reclen, d.kind, d.vind, d.lind, d.flags, d.xnext, d.nextrec, d.nextword, d.lex1, d.nex, d.gex];
+    let mut fields = vec![d.order as i128, d.reclen, d.kind, d.vind, d.lind, d.flags];
+    fields.extend([d.xnext, d.nextrec, d.nextword, d.lex1, d.nex, d.gex]);
     fields.extend(&d.aex);
-    fields.resize(11 + 16, 0);
+    fields.resize(12 + 16, 0);
     fields
 }
 
@@ -210,6 +212,12 @@ fn entry_fields(e: &reference::Entry) -> Vec<i128> {
 }
 
 impl Script {
+    /// A case without steps, in which a call may be watched.
+    pub fn new(order: Order, turn: usize, watched: Option<usize>) -> Script {
+        let (message, lent, file, watched_file) = (vec![], vec![], vec![], vec![]);
+        Script { order, turn, message, asked: vec![], lent, file, watched, watched_file }
+    }
+
     /// Lends a file that begins with these bytes; a longer one goes on with bytes that no call may touch.
     pub fn lend(&mut self, bytes: &[u8], total: usize) {
         self.message.push(b'F');
@@ -240,11 +248,21 @@ impl Script {
             self.watched_file = self.file[..self.lent.len()].to_vec();
         }
         call.encode(&mut self.message, (self.turn + self.asked.len()) % 2 == 0);
+        let order = self.order_of(&call);
         let answer = call.answer(&mut self.file);
         let refusal = answer.refusal;
         let changes = matches!(call, Call::Create(_) | Call::Append(_));
         let after = if changes { Some(self.file[..self.lent.len()].to_vec()) } else { None };
-        self.asked.push(Asked { call, answer, after });
+        self.asked.push(Asked { order, call, answer, after });
         refusal
+    }
+
+    /// The order that a call counts for: that of its settings or of its file, or where these have none, of the case.
+    fn order_of(&self, call: &Call) -> Order {
+        let own = match call {
+            Call::Create(settings) => Order::of_setting(settings.order),
+            _ => Order::of_file(&self.file),
+        };
+        own.unwrap_or(self.order)
     }
 }

@@ -1,11 +1,13 @@
-//! The table call × refusal: which cells document 01 admits, which were seen, and by which part of a refusal's sentence.
+//! The table call × refusal: which cells documents 01 and 02 admit, which were seen in each order, and by which part of
+//! a refusal's sentence.
 
-use crate::script::{Answer, CALLS};
+use crate::reference::Order;
+use crate::script::{Asked, CALLS};
 use std::collections::BTreeMap;
 
 /// The refusals that each call admits, in the order of CALLS: first to last, both included; 0 is acceptance.
 const ADMITTED: [&[(u32, u32)]; 9] = [
-    &[(0, 1), (3, 8)],
+    &[(0, 8)],
     &[(0, 11)],
     &[(0, 12)],
     &[(0, 19)],
@@ -16,10 +18,11 @@ const ADMITTED: [&[(u32, u32)]; 9] = [
     &[(0, 11), (21, 24)],
 ];
 
-/// The parts of the refusals' sentences in 01: each must have been the reason of a refusal at least once.
+/// The parts of the refusals' sentences in 01 and 02: each must have been the reason of a refusal at least once in each
+/// order.
 const WAYS: [(u32, &[&str]); 25] = [
     (1, &["fewer than 64 bytes"]),
-    (2, &["code"]),
+    (2, &["code", "order"]),
     (3, &["reclen"]),
     (4, &["over 2^30 bytes", "not whole records"]),
     (5, &["kind"]),
@@ -69,56 +72,67 @@ const WAYS: [(u32, &[&str]); 25] = [
     ),
 ];
 
+/// How often something was seen in each order, by the order's number.
+type Seen = [usize; 2];
+
 /// How often each cell and each way was seen.
 #[derive(Default)]
 pub struct Table {
-    cells: BTreeMap<(usize, u32), usize>,
-    ways: BTreeMap<(u32, &'static str), usize>,
+    cells: BTreeMap<(usize, u32), Seen>,
+    ways: BTreeMap<(u32, &'static str), Seen>,
 }
 
-/// Says whether 01 admits a refusal as a call's answer.
+/// Says whether 01 and 02 admit a refusal as a call's answer.
 fn admits(call: usize, refusal: u32) -> bool {
     ADMITTED[call].iter().any(|&(first, last)| (first..=last).contains(&refusal))
 }
 
 impl Table {
     /// Counts an answer in which both sides agree.
-    pub fn count(&mut self, call: usize, answer: &Answer) {
-        *self.cells.entry((call, answer.refusal)).or_default() += 1;
-        if answer.refusal != 0 {
-            *self.ways.entry((answer.refusal, answer.way)).or_default() += 1;
+    pub fn count(&mut self, asked: &Asked) {
+        let (order, refusal) = (asked.order as usize, asked.answer.refusal);
+        self.cells.entry((asked.call.number(), refusal)).or_default()[order] += 1;
+        if refusal != 0 {
+            self.ways.entry((refusal, asked.answer.way)).or_default()[order] += 1;
         }
     }
 
     /// How often a cell was seen.
-    fn cell(&self, call: usize, refusal: u32) -> usize {
-        self.cells.get(&(call, refusal)).copied().unwrap_or(0)
+    fn cell(&self, call: usize, refusal: u32) -> Seen {
+        self.cells.get(&(call, refusal)).copied().unwrap_or_default()
     }
 
-    /// Prints the table, a line for each refusal; a point stands where 01 admits nothing.
+    /// How often a way was seen.
+    fn way(&self, refusal: u32, way: &'static str) -> Seen {
+        self.ways.get(&(refusal, way)).copied().unwrap_or_default()
+    }
+
+    /// Prints the table, a line for each refusal, with the little order before the big one; a point stands where
+    /// nothing is admitted.
     pub fn print(&self) {
-        println!("{:>7} {}", "refusal", CALLS.map(|call| format!("{call:>13}")).concat());
+        println!("{:>7} {}", "refusal", CALLS.map(|call| format!("{call:>14}")).concat());
         for refusal in 0..=25 {
             let cells = (0..CALLS.len()).map(|call| match self.cell(call, refusal) {
-                0 if !admits(call, refusal) => format!("{:>13}", "."),
-                seen => format!("{seen:>13}"),
+                [0, 0] if !admits(call, refusal) => format!("{:>14}", "."),
+                [little, big] => format!("{:>14}", format!("{little}/{big}")),
             });
             println!("{refusal:>7} {}", cells.collect::<String>());
         }
         for (refusal, ways) in WAYS {
-            let seen = ways.iter().map(|way| format!("{way} {}", self.ways.get(&(refusal, *way)).unwrap_or(&0)));
-            println!("{refusal:>7} {}", seen.collect::<Vec<String>>().join("; "));
+            let seen = ways.iter().map(|way| (way, self.way(refusal, way)));
+            let seen: Vec<String> = seen.map(|(way, [little, big])| format!("{way} {little}/{big}")).collect();
+            println!("{refusal:>7} {}", seen.join("; "));
         }
     }
 
-    /// The cells that are empty against 01, and those that 01 does not admit.
+    /// The cells that are empty and should not be, and those that are not admitted.
     pub fn wrong_cells(&self) -> Vec<String> {
         let mut wrong = vec![];
         for (call, name) in CALLS.iter().enumerate() {
-            for refusal in 0..=25 {
-                match (admits(call, refusal), self.cell(call, refusal)) {
-                    (true, 0) => wrong.push(format!("no agreed answer {refusal} of {name}")),
-                    (false, seen) if seen > 0 => wrong.push(format!("{refusal} of {name}, which 01 does not admit")),
+            for (order, refusal) in Order::BOTH.into_iter().flat_map(|order| (0..=25).map(move |r| (order, r))) {
+                match (admits(call, refusal), self.cell(call, refusal)[order as usize]) {
+                    (true, 0) => wrong.push(format!("no agreed answer {refusal} of {name}, {}", order.name())),
+                    (false, seen) if seen > 0 => wrong.push(format!("{refusal} of {name}, which is not admitted")),
                     _ => {}
                 }
             }
@@ -126,9 +140,11 @@ impl Table {
         wrong
     }
 
-    /// The ways that were never seen.
+    /// The ways that were never seen in one of the orders.
     pub fn missing_ways(&self) -> Vec<String> {
         let all = WAYS.iter().flat_map(|&(refusal, ways)| ways.iter().map(move |&way| (refusal, way)));
-        all.filter(|way| !self.ways.contains_key(way)).map(|(refusal, way)| format!("{refusal}: {way}")).collect()
+        let of_both = all.flat_map(|(refusal, way)| Order::BOTH.map(|order| (refusal, way, order)));
+        let missing = of_both.filter(|&(refusal, way, order)| self.way(refusal, way)[order as usize] == 0);
+        missing.map(|(refusal, way, order)| format!("{refusal}: {way}, {}", order.name())).collect()
     }
 }

@@ -1,6 +1,6 @@
 /* A reader of CLASSIC files by the library: answers the questions that reader.f90 answers, in the same form, about
-   files that the library validates and finds in order.
-   Usage: reader FILE list | descriptor | index ENTRY | version ENTRY | section ENTRY IDENTIFIER | data ENTRY */
+   files of either byte order that the library validates and finds in order.
+   Usage: reader FILE list | descriptor | numbers ENTRY | index ENTRY | section ENTRY IDENTIFIER | data ENTRY */
 #include "classic.h"
 
 #include <inttypes.h>
@@ -55,22 +55,23 @@ static void list_entries(uint64_t xnext) {
     }
 }
 
-/* Prints the numbers of the file descriptor, with the addresses of the extensions in use. */
+/* Prints the byte order and the numbers of the file descriptor, with the addresses of the extensions in use. */
 static void print_descriptor(classic_descriptor d) {
-    uint64_t numbers[] = {d.reclen,  d.kind,     d.vind, d.lind, d.flags, d.xnext,
-                          d.nextrec, d.nextword, d.lex1, d.nex,  d.gex};
+    uint64_t numbers[] = {d.order, d.reclen,  d.kind,     d.vind, d.lind, d.flags,
+                          d.xnext, d.nextrec, d.nextword, d.lex1, d.nex,  d.gex};
     for (size_t i = 0; i < sizeof numbers / sizeof numbers[0]; i++) printf("%" PRIu64 "\n", numbers[i]);
     for (uint32_t i = 0; i < d.nex; i++) printf("%" PRIu64 "\n", d.aex[i]);
 }
 
-/* Prints the words of a part. */
+/* Prints the numbers of an entry that the listing has not. */
+static void print_numbers(classic_entry e) { printf("%" PRId32 "\n%" PRId64 "\n", e.version, e.adata); }
+
+/* Prints the bytes of the words of a part. */
 static void print_words(classic_part p) {
     if (p.refusal != 0) give_up("the part is refused", p.refusal);
     if (p.length % 4 != 0) give_up("the part is not whole words", 0);
-    for (const uint8_t *word = file + p.start; word < file + p.start + p.length; word += 4) {
-        uint32_t bits = word[0] | (uint32_t)word[1] << 8 | (uint32_t)word[2] << 16 | (uint32_t)word[3] << 24;
-        printf("%" PRId32 "\n", (int32_t)bits);
-    }
+    for (const uint8_t *word = file + p.start; word < file + p.start + p.length; word += 4)
+        printf("%02X%02X%02X%02X\n", word[0], word[1], word[2], word[3]);
 }
 
 /* The entry number, or 0, and the identifier of the command line, or 0. */
@@ -85,8 +86,8 @@ int main(int argc, char **argv) {
     uint64_t entry = entry_of(argc, argv);
     if (strcmp(question, "list") == 0) list_entries(d.xnext);
     else if (strcmp(question, "descriptor") == 0) print_descriptor(d);
+    else if (strcmp(question, "numbers") == 0) print_numbers(opened(entry));
     else if (strcmp(question, "index") == 0) print_words(classic_index_words(file, bytes, entry));
-    else if (strcmp(question, "version") == 0) printf("%" PRId32 "\n", opened(entry).version);
     else if (strcmp(question, "section") == 0)
         print_words(classic_section(file, bytes, entry, identifier_of(argc, argv)));
     else if (strcmp(question, "data") == 0) print_words(classic_data(file, bytes, entry));

@@ -1,13 +1,19 @@
-! A reader of CLASSIC files, version 2, in the steps of section 4 of IRAM memo 2013-2 and with the order of its Table 4:
-! Fortran direct access, one record at a time. It is for admitted files, and stops with a message at others.
-! Usage: reader FILE list | descriptor | index ENTRY | version ENTRY | section ENTRY IDENTIFIER | data ENTRY
-! list prints document 01's listing; the others print one number or one word a line, in decimal.
+! A reader of CLASSIC files, version 2, in the steps of section 4 of IRAM memo 2013-2 and with the fields as its Table 4
+! has them: Fortran direct access, one record at a time. It is for admitted files, and stops with a message at others.
+! The file code says which byte order the integers have, and with that order the file is opened, so that the compiler
+! turns them. All else is read as characters, whose bytes it never turns.
+! Usage: reader FILE list | descriptor | numbers ENTRY | index ENTRY | section ENTRY IDENTIFIER | data ENTRY
+! list prints document 01's listing. descriptor prints the byte order, 0 for little and 1 for big, and what else the
+! descriptor holds; numbers prints an entry's version and adata; both have one number a line, in decimal. The others
+! print one word a line, its four bytes in hexadecimal.
 program reader
   use, intrinsic :: iso_fortran_env, only: error_unit
   implicit none
 
-  ! The codes '2A  ' and '2   ' as little-endian words.
-  integer(4), parameter :: file_code = int(z'20204132', 4), entry_code = int(z'20202032', 4)
+  ! The file codes of the two byte orders, which have the numbers 0 and 1, and the orders as open knows them.
+  character(4), parameter :: file_codes(0:1) = ['2A  ', '2B  ']
+  character(13), parameter :: orders(0:1) = ['little_endian', 'big_endian   ']
+  character(4), parameter :: entry_code = '2   '
   integer(8), parameter :: low_half = int(z'FFFFFFFF', 8)
 
   ! A word of the file: its record, and its number in that record or, past the record's end, in those that follow.
@@ -22,9 +28,9 @@ program reader
     integer(8) :: nword, adata, ldata
   end type entry
 
-  ! The file, the words of the record that was read last, and that record's number.
-  integer :: file
-  integer(4), allocatable :: words(:)
+  ! The file and its byte order, the bytes of each word of the record that was read last, and that record's number.
+  integer :: file, order = 0
+  character(4), allocatable :: words(:)
   integer(8) :: held = 0
 
   ! The numbers of the file descriptor that finding an entry takes.
@@ -37,10 +43,10 @@ program reader
     call list_entries
   case ('descriptor')
     call print_descriptor
+  case ('numbers')
+    call print_numbers(opened(number(3)))
   case ('index')
     call print_words(at(index_of(number(3)), 4_8), int(lind - 3, 8))
-  case ('version')
-    call print_version(opened(number(3)))
   case ('section')
     call print_section(opened(number(3)), number(4))
   case ('data')
@@ -79,58 +85,91 @@ contains
     if (status /= 0) call give_up("'" // digits // "' is no number")
   end function number
 
-  ! Steps 1 to 5: opens the file by its record length, and reads what the descriptor says.
+  ! Steps 1 to 5: looks at the code, opens the file again by its byte order and then by its record length, and reads what
+  ! the descriptor says.
   subroutine open_file(name)
     character(*), intent(in) :: name
     call open_records(name, 16)
-    if (word_at(place(1, 1)) /= file_code) call give_up('the file code is not that of a version 2 file')
-    reclen = word_at(place(1, 2))
+    order = findloc(file_codes, bytes_at(place(1, 1)), 1) - 1
+    close (file)
+    if (order < 0) call give_up('the file code is not that of a version 2 file in either byte order')
+    call open_records(name, 16)
+    reclen = integer4_at(place(1, 2))
     close (file)
     if (reclen < 16) call give_up('a record has 16 words or more')
     call open_records(name, reclen)
-    lind = word_at(place(1, 5))
+    lind = integer4_at(place(1, 5))
     xnext = integer8_at(place(1, 7))
-    lex1 = word_at(place(1, 12))
-    nex = word_at(place(1, 13))
-    gex = word_at(place(1, 14))
+    lex1 = integer4_at(place(1, 12))
+    nex = integer4_at(place(1, 13))
+    gex = integer4_at(place(1, 14))
   end subroutine open_file
 
-  ! Opens the file with records of so many words.
+  ! Opens the file with records of so many words, its integers in the byte order.
   subroutine open_records(name, length)
     character(*), intent(in) :: name
     integer(4), intent(in) :: length
     integer :: status
     open (newunit=file, file=name, status='old', action='read', access='direct', form='unformatted', &
-          recl=4 * length, convert='little_endian', iostat=status)
+          recl=4 * length, convert=trim(orders(order)), iostat=status)
     if (status /= 0) call give_up(name // ' cannot be opened')
     if (allocated(words)) deallocate (words)
     allocate (words(length))
     held = 0
   end subroutine open_records
 
-  ! The word at a place; the record that it stands in is read whole.
-  function word_at(p) result(word)
+  ! Reads the record that a place stands in, whole, and gives the place's word in that record.
+  subroutine hold(p, word)
     type(place), intent(in) :: p
-    integer(4) :: word
+    integer(8), intent(out) :: word
     integer(8) :: record
     integer :: status
     record = p%record + (p%word - 1) / size(words)
-    if (record /= held) then
-      read (file, rec=record, iostat=status) words
-      if (status /= 0) call give_up('a record that the file should have cannot be read')
-      held = record
-    end if
-    word = words(mod(p%word - 1, int(size(words), 8)) + 1)
-  end function word_at
+    word = mod(p%word - 1, int(size(words), 8)) + 1
+    if (record == held) return
+    read (file, rec=record, iostat=status) words
+    if (status /= 0) call give_up('a record that the file should have cannot be read')
+    held = record
+  end subroutine hold
 
-  ! The Integer*8 in two words, the low one first.
+  ! The four bytes of the word at a place.
+  function bytes_at(p) result(bytes)
+    type(place), intent(in) :: p
+    character(4) :: bytes
+    integer(8) :: word
+    call hold(p, word)
+    bytes = words(word)
+  end function bytes_at
+
+  ! The Integer*4 at a place: the record is read up to it, and the compiler turns it.
+  function integer4_at(p) result(value)
+    type(place), intent(in) :: p
+    integer(4) :: value
+    integer(8) :: word
+    call hold(p, word)
+    read (file, rec=held) words(:word - 1), value
+  end function integer4_at
+
+  ! The Integer*8 at a place, likewise; across the end of a record no read goes, and it is put together of two words.
   function integer8_at(p) result(value)
     type(place), intent(in) :: p
-    integer(8) :: value, low, high
-    low = word_at(p)
-    high = word_at(at(p, 2_8))
-    value = ior(ishft(high, 32), iand(low, low_half))
+    integer(8) :: value, word
+    call hold(p, word)
+    if (word == size(words)) then
+      value = joined(integer4_at(p), integer4_at(at(p, 2_8)))
+    else
+      read (file, rec=held) words(:word - 1), value
+    end if
   end function integer8_at
+
+  ! The Integer*8 of two words: in the big order the high one comes first, in the little order the low one.
+  pure function joined(first, second)
+    integer(4), intent(in) :: first, second
+    integer(8) :: joined, high, low
+    high = merge(first, second, order == 1)
+    low = merge(second, first, order == 1)
+    joined = ior(ishft(high, 32), iand(low, low_half))
+  end function joined
 
   ! The place of a word by its position, which is counted from 1 at a place.
   pure function at(p, position)
@@ -169,11 +208,11 @@ contains
     type(entry) :: e
     type(place) :: slot
     slot = index_of(ient)
-    e%start = place(integer8_at(slot), word_at(at(slot, 3_8)))
-    if (word_at(e%start) /= entry_code) call give_up('the entry code is not there')
+    e%start = place(integer8_at(slot), integer4_at(at(slot, 3_8)))
+    if (bytes_at(e%start) /= entry_code) call give_up('the entry code is not there')
     if (integer8_at(at(e%start, 10_8)) /= ient) call give_up('the entry has another number')
-    e%version = word_at(at(e%start, 2_8))
-    e%nsec = word_at(at(e%start, 3_8))
+    e%version = integer4_at(at(e%start, 2_8))
+    e%nsec = integer4_at(at(e%start, 3_8))
     e%nword = integer8_at(at(e%start, 4_8))
     e%adata = integer8_at(at(e%start, 6_8))
     e%ldata = integer8_at(at(e%start, 8_8))
@@ -190,17 +229,30 @@ contains
     end do
   end subroutine list_entries
 
-  ! Prints the numbers of the file descriptor, with the addresses of the extensions in use.
+  ! Prints the byte order and the numbers of the file descriptor, with the addresses of the extensions in use.
   subroutine print_descriptor
     integer(8) :: i
-    call print_words(place(1, 2), 5_8)
+    print '(i0)', order
+    do i = 2, 6
+      call print_integer4(place(1, i))
+    end do
     call print_integer8(place(1, 7))
     call print_integer8(place(1, 9))
-    call print_words(place(1, 11), 4_8)
+    do i = 11, 14
+      call print_integer4(place(1, i))
+    end do
     do i = 1, nex
       call print_integer8(place(1, 13 + 2 * i))
     end do
   end subroutine print_descriptor
+
+  ! Prints the Integer*4 at a place.
+  subroutine print_integer4(p)
+    type(place), intent(in) :: p
+    integer(4) :: value
+    value = integer4_at(p)
+    print '(i0)', value
+  end subroutine print_integer4
 
   ! Prints the Integer*8 at a place.
   subroutine print_integer8(p)
@@ -210,23 +262,24 @@ contains
     print '(i0)', value
   end subroutine print_integer8
 
-  ! Prints so many words from a place on.
+  ! Prints the bytes of so many words from a place on.
   subroutine print_words(p, length)
     type(place), intent(in) :: p
     integer(8), intent(in) :: length
     integer(8) :: i
-    integer(4) :: word
+    integer :: j
+    character(4) :: bytes
     do i = 1, length
-      word = word_at(at(p, i))
-      print '(i0)', word
+      bytes = bytes_at(at(p, i))
+      print '(4z2.2)', (ichar(bytes(j:j)), j = 1, 4)
     end do
   end subroutine print_words
 
-  ! Prints the version of an entry.
-  subroutine print_version(e)
+  ! Prints the numbers of an entry that the listing has not.
+  subroutine print_numbers(e)
     type(entry), intent(in) :: e
-    print '(i0)', e%version
-  end subroutine print_version
+    print '(i0)', e%version, e%adata
+  end subroutine print_numbers
 
   ! Steps 10 and 11: prints the first section that has an identifier.
   subroutine print_section(e, identifier)
@@ -234,7 +287,7 @@ contains
     integer(8), intent(in) :: identifier
     integer(8) :: i, address, length
     do i = 1, e%nsec
-      if (word_at(at(e%start, 11 + i)) == identifier) then
+      if (integer4_at(at(e%start, 11 + i)) == identifier) then
         length = integer8_at(at(e%start, 10 + e%nsec + 2 * i))
         address = integer8_at(at(e%start, 10 + 3 * e%nsec + 2 * i))
         call print_words(at(e%start, address), length)

@@ -1,4 +1,4 @@
-//! The comparison of the listing program with a plain listing of its own.
+//! The comparison of the listing program with a plain listing of its own, on files of both byte orders.
 //! Usage: listing [--seed N] [--case K] PROGRAM...: all cases of a seed, or one, with the command that runs the program.
 //! Or: listing --list FILE: prints the plain listing of a file.
 
@@ -20,7 +20,8 @@ mod random;
 #[path = "../compare/reference.rs"]
 mod reference;
 
-use cases::PLAN;
+use cases::{Input, PLAN};
+use reference::Order;
 use std::collections::BTreeMap;
 use std::fs;
 use std::process::{exit, Command};
@@ -44,12 +45,13 @@ struct Options {
     program: Vec<String>,
 }
 
-/// What was compared and what differed so far, by the kinds of PLAN; and how often each sort of line was seen.
+/// What was compared and what differed so far, by the kinds of PLAN; and how often each sort of line was seen in inputs
+/// of each order, by the order's number.
 struct Comparison {
     options: Options,
     differing: [usize; PLAN.len()],
     compared: [usize; PLAN.len()],
-    lines: BTreeMap<String, usize>,
+    lines: BTreeMap<String, [usize; 2]>,
 }
 
 /// What a run of the program gave.
@@ -59,10 +61,9 @@ struct Given {
     ended_well: bool,
 }
 
-/// An input of a kind of PLAN, with the listing that 01 has of it and what the program gave.
+/// An input, with the listing that 01 has of it and what the program gave.
 struct Tried {
-    kind: usize,
-    input: Vec<u8>,
+    input: Input,
     expected: String,
     given: Given,
 }
@@ -93,21 +94,21 @@ impl Comparison {
 
     /// Lists the input of a case by 01 and by the program.
     fn try_case(&self, case: usize) -> std::io::Result<Tried> {
-        let (kind, input) = cases::input(self.options.seed, case);
-        let expected = listing::listing(&input);
-        let given = self.list(case, &input)?;
-        Ok(Tried { kind, input, expected, given })
+        let input = cases::input(self.options.seed, case);
+        let expected = listing::listing(&input.bytes);
+        let given = self.list(case, &input.bytes)?;
+        Ok(Tried { input, expected, given })
     }
 
     /// Counts a case that was tried, and shows it where the listings differ.
     fn judge_case(&mut self, case: usize, tried: Tried) -> std::io::Result<()> {
-        let Tried { kind, input, expected, given } = tried;
-        self.compared[kind] += 1;
+        let Tried { input, expected, given } = tried;
+        self.compared[input.kind] += 1;
         if given.listing != expected || !given.ended_well || !given.said.is_empty() {
-            self.differing[kind] += 1;
-            self.show(case, kind, &expected, &given);
+            self.differing[input.kind] += 1;
+            self.show(case, input.kind, &expected, &given);
         }
-        self.keep(case, &input, &expected, &given)?;
+        self.keep(case, &input.bytes, &expected, &given)?;
         self.count_lines(&input, &expected);
         Ok(())
     }
@@ -167,16 +168,16 @@ impl Comparison {
     }
 
     /// Counts the sorts of lines of a listing, and what is rare in the whole of an input.
-    fn count_lines(&mut self, input: &[u8], expected: &str) {
+    fn count_lines(&mut self, input: &Input, expected: &str) {
         let mut sorts: Vec<String> = expected.lines().map(sort).collect();
         if expected == listing::HEADER {
             sorts.push("no entries".to_string());
         }
         let listed = expected.starts_with(listing::HEADER);
-        if listed && input.len() == 65536 {
+        if listed && input.bytes.len() == 65536 {
             sorts.push("65536 bytes listed".to_string());
         }
-        if input.len() == 65537 {
+        if input.bytes.len() == 65537 {
             sorts.push("65537 bytes".to_string());
         }
         if listed && expected.split_whitespace().any(|word| word.parse::<u64>().is_ok_and(|number| number >= 10000)) {
@@ -186,7 +187,7 @@ impl Comparison {
             sorts.push("over 5000 entries".to_string());
         }
         for sort in sorts {
-            *self.lines.entry(sort).or_default() += 1;
+            self.lines.entry(sort).or_default()[input.order as usize] += 1;
         }
     }
 
@@ -204,14 +205,22 @@ impl Comparison {
             }
         }
         if self.options.case.is_none() {
-            let seen: Vec<String> = self.lines.iter().map(|(sort, count)| format!("{sort}: {count}")).collect();
-            println!("lines seen: {}", seen.join("; "));
-            let missing: Vec<String> = sorts().into_iter().filter(|sort| !self.lines.contains_key(sort)).collect();
-            test("lines", missing.is_empty(), &format!("not seen: {missing:?}"));
+            let seen: Vec<String> = self.lines.iter().map(|(sort, [l, b])| format!("{sort}: {l}/{b}")).collect();
+            println!("lines seen, in inputs of the little and of the big order: {}", seen.join("; "));
+            for order in Order::BOTH {
+                let missing = self.missing(order);
+                test(&format!("lines, {}", order.name()), missing.is_empty(), &format!("not seen: {missing:?}"));
+            }
             let compared: usize = self.compared.iter().sum();
             test("count", compared >= ENOUGH, &format!("{compared} inputs, {ENOUGH} wanted"));
         }
         failed
+    }
+
+    /// The sorts of lines that were not seen in inputs of an order, and should have been.
+    fn missing(&self, order: Order) -> Vec<String> {
+        let seen = |sort: &String| self.lines.get(sort).is_some_and(|counts| counts[order as usize] > 0);
+        sorts().into_iter().filter(|sort| !seen(sort)).collect()
     }
 }
 
@@ -225,7 +234,7 @@ fn sort(line: &str) -> String {
     }
 }
 
-/// The sorts of lines that a run must see.
+/// The sorts of lines that a run must see in each order.
 fn sorts() -> Vec<String> {
     let mut sorts: Vec<String> = (1..=11).map(|number| format!("file refused {number}")).collect();
     sorts.extend((13..=19).map(|number| format!("entry refused {number}")));

@@ -1,5 +1,5 @@
 //! What examples/reader.c must print of a file, by the independent implementation of the comparison (reference.rs),
-//! which was written from document 01 and the memo. The names of refusals are those of include/classic.h.
+//! which was written from documents 01 and 02 and the memo. The names of refusals are those of include/classic.h.
 //! Usage: expected FILE, at the repository's top.
 
 #[allow(dead_code)]
@@ -13,14 +13,16 @@ use std::fs;
 fn named(refusal: Refusal) -> String {
     let header = fs::read_to_string("include/classic.h").expect("include/classic.h can be read");
     let number = refusal.number.to_string();
-    let mut values = header.lines().filter_map(|line| line.trim().split_once(" = "));
+    let refusals =
+        header.lines().skip_while(|line| !line.starts_with("enum classic_refusal")).take_while(|&line| line != "};");
+    let mut values = refusals.filter_map(|line| line.trim().split_once(" = "));
     let (name, _) = values
         .find(|(name, rest)| name.starts_with("CLASSIC_") && rest.split([',', ' ']).next() == Some(&number))
         .expect("the header names the refusal");
     format!("{number}, {name}")
 }
 
-/// The words of a part, each as an Integer*4 with a space in front.
+/// The words of a part, each as a little-endian Integer*4, whatever the file's order, with a space in front.
 fn words(file: &[u8], part: Part) -> String {
     let bytes = &file[part.start as usize..(part.start + part.length) as usize];
     bytes.chunks(4).map(|word| format!(" {}", i32::from_le_bytes(word.try_into().unwrap()))).collect()
@@ -33,7 +35,8 @@ fn part(answer: Result<Part, Refusal>) -> Part {
 
 /// The lines of the descriptor and its index areas.
 fn print_descriptor(file: &[u8], d: &Descriptor) {
-    print!("reclen {}, kind {}, vind {}, lind {}, flags {}, ", d.reclen, d.kind, d.vind, d.lind, d.flags);
+    print!("order {}, reclen {}, kind {}, vind {}, ", d.order as i32, d.reclen, d.kind, d.vind);
+    print!("lind {}, flags {}, ", d.lind, d.flags);
     print!("xnext {}, nextrec {}, nextword {}, ", d.xnext, d.nextrec, d.nextword);
     println!("lex1 {}, nex {}, gex {}", d.lex1, d.nex, d.gex);
     for k in 1..=d.nex as u64 {

@@ -10,15 +10,13 @@ use lib.ListN.{length}
 use mir.Syntax.{w32}
 use Rattle.words.specs.Word.{signedOf}
 use Rattle.words.specs.Range.{within, atLeast}
-use Rattle.words.specs.Code.{sameBytes}
-use Rattle.words.proofs.Ranges.{within-row, atLeast-row}
+use Rattle.words.proofs.Ranges.{within-bounds, within-row, atLeast-row}
 use Rattle.geometry.specs.declared.units.RecordNumber.{RecordNumber}
 use Rattle.geometry.specs.Units.{entriesBefore}
 use Rattle.geometry.proofs.Capacities.{total-limit}
 use Rattle.descriptor.specs.declared.numbers.DescriptorNumbers.{DescriptorNumbers}
 use Rattle.descriptor.specs.declared.validating.Validated.the-variants.{Numbers}
-use Rattle.layout.specs.FirstRecordWords.{fileCode}
-use Rattle.descriptor.specs.FirstRecord.{fileCodeOf, numbersOf, addressesOf, mexOf, growthIn, freeOf}
+use Rattle.descriptor.specs.FirstRecord.{numbersOf, addressesOf, mexOf, growthIn, freeOf}
 use Rattle.descriptor.specs.Rules.{settingRefusal, fillingRefusal}
 use Rattle.descriptor.specs.Bounds.{Admitted}
 use Rattle.descriptor.specs.Answers.{validationOf}
@@ -30,8 +28,9 @@ mex-reach : (reclen nex : ℕ) → nex ≤ 16 → 14 + 2 * nex ≤ reclen → (n
 unfolding mexOf
 mex-reach reclen nex h l = omega arith
 
--- the three settings that nothing else depends on
+-- the four settings that nothing else depends on
 pub record Apt (d : DescriptorNumbers) : Type 0 where
+  pub order : within 0 1 (signedOf w32 (d .order .0)) ≡ true
   pub kind : within 1 3 (signedOf w32 (d .kind)) ≡ true
   pub vind : atLeast 2 (signedOf w32 (d .vind)) ≡ true
   pub flags : within 0 1 (signedOf w32 (d .flags)) ≡ true
@@ -52,13 +51,14 @@ module _ (bytes : ℕ) (d : DescriptorNumbers) (addresses : List RecordNumber) (
         total-limit (growthIn d) (d .nex) (d .nex) (omega arith) (a .settled .within),
       )
 
-  -- rules 3 to 8 hold, and rules 9 to 11
+  -- rules 2 to 8 hold, and rules 9 to 11
   pub setting-none : Apt d → settingRefusal bytes d ≡ 0
   unfolding settingRefusal
   setting-none t =
       let s = a .settled in
       let mex = mex-reach (d .reclen) (d .nex) (s .nex-high) (s .nex-room) in
       rw (
+        t .order,
         within-row 16 4096 (d .reclen) (omega arith) (s .reclen-low) (s .reclen-high),
         le-leb bytes (2 ^ 30) (a .lent .high),
         eq-eqb (bytes % (4 * d .reclen)) 0 (a .lent .whole),
@@ -90,14 +90,18 @@ module _ (bytes : ℕ) (d : DescriptorNumbers) (addresses : List RecordNumber) (
   pub first-free : d .reclen ≤ freeOf d
   first-free = place-behind (d .reclen) (d .nextrec) (d .nextword) (a .free .record-low)
 
--- the settings that rules 5, 6 and 7 ask for, from a file that passed them
+-- the settings that rules 2, 5, 6 and 7 ask for, from a file that passed them
 pub apt : (bytes : ℕ) (d : DescriptorNumbers) → settingRefusal bytes d ≡ 0 → Apt d
 apt bytes d e = let a = setting-rows bytes d e in search needs
 
--- so validating gives them, where a file with the code has them
+-- the order is one of the two
+pub order-known : (d : DescriptorNumbers) → Apt d → d .order .0 ≤ 1
+order-known d t = within-bounds w32 0 1 (d .order .0) (omega arith) (t .order) .1
+
+-- so validating gives them, where a file has them
 pub validated : (file : List ℕ) (d : DescriptorNumbers) (addresses : List RecordNumber) → numbersOf file ≡ d → addressesOf file (d .nex) ≡ addresses
-    → 64 ≤ length file → sameBytes (fileCodeOf file) fileCode ≡ true → Apt d → Admitted (length file) d addresses
+    → 64 ≤ length file → Apt d → Admitted (length file) d addresses
     → validationOf file ≡ record { refusal = 0; numbers = Numbers d; addresses = addresses }
-validated file d addresses e f l c t a =
-    let none = rw (e, f, setting-none (length file) d addresses a t, filling-none (length file) d addresses a) at (file-rest file (le-leb 64 (length file) l) c) in
+validated file d addresses e f l t a =
+    let none = rw (e, f, setting-none (length file) d addresses a t, filling-none (length file) d addresses a) at (file-rest file (le-leb 64 (length file) l)) in
     answer-numbers file none ∙ rw (e, f)

@@ -8,18 +8,17 @@ use native.Mathlib.Omega.{arith}
 use borrow.Author.Tests.{leb-true, ne-eqb}
 use lib.Dec.{leb, eqb}
 use lib.ListN.{length}
-use Rattle.words.specs.Code.{sameBytes}
 use Rattle.words.proofs.Table.{length-places}
 use Rattle.geometry.specs.declared.units.ExtensionNumber.{ExtensionNumber}
 use Rattle.descriptor.specs.declared.numbers.DescriptorNumbers.{DescriptorNumbers}
 use Rattle.descriptor.specs.declared.validating.Validated.{Validated}
 use Rattle.descriptor.specs.declared.validating.Validated.the-variants.{Numbers, Refused}
 use Rattle.descriptor.specs.declared.validating.Validation.{Validation}
-use Rattle.layout.specs.FirstRecordWords.{fileCode}
-use Rattle.descriptor.specs.FirstRecord.{fileCodeOf, numbersOf, addressesOf}
+use Rattle.layout.specs.FileCode.{byteOrderOf}
+use Rattle.descriptor.specs.FirstRecord.{numbersOf, addressesOf}
 use Rattle.descriptor.specs.Rules.{settingRules, fillingRules, fileRules, settingRefusal, fillingRefusal, fileRefusal}
 use Rattle.descriptor.specs.Answers.{validationOf, noValidation, validatedCase, extensionIn, extensionOf}
-use Rattle.descriptor.specs.Bounds.{Admitted}
+use Rattle.descriptor.specs.Bounds.{Admitted, AdmittedIn}
 use Rattle.descriptor.proofs.Refusals.{refusal-append, refusal-none, all-hold, hold-split}
 use Rattle.descriptor.proofs.Passed.{admitted}
 
@@ -31,16 +30,15 @@ module _ (file : List ℕ) where
   abbrev d : DescriptorNumbers
   d = numbersOf file
 
-  -- behind the code the settings count, and then the filling
-  pub file-rest : leb 64 (length file) ≡ true → sameBytes (fileCodeOf file) fileCode ≡ true
+  -- behind rule 1 the settings count, and then the filling
+  pub file-rest : leb 64 (length file) ≡ true
       → fileRefusal file ≡ cond (eqb (settingRefusal (length file) d) 0) (fillingRefusal (length file) d (addressesOf file (d .nex))) (settingRefusal (length file) d)
   unfolding fileRefusal settingRefusal fillingRefusal
-  file-rest h c = rw (h, c) (refusal-append (settingRules (length file) d) (fillingRules (length file) d (addressesOf file (d .nex))) (omega arith))
+  file-rest h = rw h (refusal-append (settingRules (length file) d) (fillingRules (length file) d (addressesOf file (d .nex))) (omega arith))
 
   -- what a file with no refusal shows: it passed them all
   pub record FilePassed : Type 0 where
     pub long : 64 ≤ length file
-    pub code : sameBytes (fileCodeOf file) fileCode ≡ true
     pub settings : settingRefusal (length file) d ≡ 0
     pub filling : fillingRefusal (length file) d (addressesOf file (d .nex)) ≡ 0
 
@@ -51,13 +49,18 @@ module _ (file : List ℕ) where
       let settings = settingRules (length file) d in
       let filling = fillingRules (length file) d (addressesOf file (d .nex)) in
       let a = all-hold (fileRules file d (addressesOf file (d .nex))) (omega arith) e in
-      let b = hold-split settings filling (a .1 .1) in
-      record { long = leb-true 64 (length file) (a .0); code = a .1 .0; settings = refusal-none settings (b .0); filling = refusal-none filling (b .1) }
+      let b = hold-split settings filling (a .1) in
+      record { long = leb-true 64 (length file) (a .0); settings = refusal-none settings (b .0); filling = refusal-none filling (b .1) }
 
   -- so its numbers and addresses are admitted
   pub file-admitted : fileRefusal file ≡ 0 → Admitted (length file) d (addressesOf file (d .nex))
   unfolding addressesOf
   file-admitted e = let p = file-passed e in admitted (length file) d (addressesOf file (d .nex)) (length-places 16 (d .nex) _ _) (p .long) (p .settings) (p .filling)
+
+  -- its code says the order of its numbers
+  pub file-order : d .order ≡ byteOrderOf file
+  unfolding numbersOf
+  file-order = refl
 
   -- a file that is not refused has its numbers and addresses
   pub answer-numbers : fileRefusal file ≡ 0 → validationOf file ≡ record { refusal = 0; numbers = Numbers d; addresses = addressesOf file (d .nex) }
@@ -74,7 +77,7 @@ module _ (file : List ℕ) where
     pub refusal : fileRefusal file ≡ 0
     pub numbers : n ≡ d
     pub addresses : v .addresses ≡ addressesOf file (d .nex)
-    pub admitted : Admitted (length file) n (v .addresses)
+    pub admitted : AdmittedIn file n (v .addresses)
 
   -- what a validation that gave numbers shows
   pub told : (v : Validation) (n : DescriptorNumbers) → v ≡ validationOf file → v .numbers ≡ Numbers n → Told v n
@@ -84,7 +87,7 @@ module _ (file : List ℕ) where
             let w = e ∙ answer-numbers z in
             let numbers : n ≡ d = cc in
             let addresses : v .addresses ≡ addressesOf file (d .nex) = cc in
-            record { refusal = z; numbers = numbers; addresses = addresses; admitted = rw (numbers, addresses) (file-admitted z) }
+            record { refusal = z; numbers = numbers; addresses = addresses; admitted = rw (numbers, addresses) (record { admitted = file-admitted z; order = file-order }) }
         | no z ↦
             let w = e ∙ answer-refused (fileRefusal file) refl (ne-eqb (fileRefusal file) 0 z) in
             let never : _≡_ {A = ℕ} 0 1 = cc in

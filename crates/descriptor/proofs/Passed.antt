@@ -38,8 +38,9 @@ one-record : (bytes r : ℕ) → bytes % r ≡ 0 → 64 ≤ bytes → r ≤ byte
 one-record bytes r e h =
     elim (decLe r bytes) [ yes l ↦ l | no l ↦ absurd (omega (arith, mod-eq-of-lt (lt-of-not-le l))) ]
 
--- rules 3 to 8, one by one
+-- rules 2 to 8, one by one
 pub record SettingsHold (bytes : ℕ) (d : DescriptorNumbers) : Type 0 where
+  pub order : within 0 1 (signedOf w32 (d .order .0)) ≡ true
   pub reclen : within 16 4096 (signedOf w32 (d .reclen)) ≡ true
   pub lent : leb bytes (2 ^ 30) ≡ true
   pub whole : eqb (bytes % (4 * d .reclen)) 0 ≡ true
@@ -78,6 +79,7 @@ module _ (bytes : ℕ) (d : DescriptorNumbers) where
       let s = settled e in
       let a = setting-rows e in
       record {
+        order = omega (arith, within-bounds w32 0 1 (d .order .0) (omega arith) (a .order) .1);
         reclen = omega (arith, s .reclen-high);
         kind = omega (arith, within-bounds w32 1 3 (d .kind) (omega arith) (a .kind) .1);
         vind = omega (arith, atLeast-bounds w32 2 (d .vind) (a .vind) .1);

@@ -31,6 +31,7 @@ validationOf file =
 -- numbers that are all zero
 abbrev pub noNumbers : DescriptorNumbers
 noNumbers = record {
+  order = record { 0 = 0 };
   reclen = 0;
   kind = 0;
   vind = 0;

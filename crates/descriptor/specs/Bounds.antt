@@ -7,6 +7,7 @@ use lib.ListN.{length}
 use Rattle.geometry.specs.declared.units.RecordNumber.{RecordNumber}
 use Rattle.geometry.specs.Units.{entriesBefore}
 use Rattle.geometry.specs.Growth.{capacityOf, overOf}
+use Rattle.layout.specs.FileCode.{byteOrderOf}
 use Rattle.descriptor.specs.declared.numbers.DescriptorNumbers.{DescriptorNumbers}
 use Rattle.descriptor.specs.FirstRecord.{growthIn, freeOf}
 use Rattle.descriptor.specs.Areas.{areasStart, areasEnd}
@@ -26,8 +27,9 @@ pub record Settled (d : DescriptorNumbers) : Type 0 where
   pub nex-room : 14 + 2 * d .nex ≤ d .reclen
   pub within : overOf (growthIn d) (d .nex) ≡ false
 
--- the numbers of an Integer*4 have 32 bits
+-- the order, and the numbers of an Integer*4, have 32 bits
 pub record Narrow (d : DescriptorNumbers) : Type 0 where
+  pub order : d .order .0 < 2 ^ 32
   pub reclen : d .reclen < 2 ^ 32
   pub kind : d .kind < 2 ^ 32
   pub vind : d .vind < 2 ^ 32
@@ -70,3 +72,8 @@ pub record Admitted (bytes : ℕ) (d : DescriptorNumbers) (addresses : List Reco
   pub started : areasStart d addresses (d .nex) ≡ true
   pub ended : areasEnd d addresses ≡ true
   pub table : length addresses ≡ 16
+
+-- and of a file that holds them: its code says their order
+pub record AdmittedIn (file : List ℕ) (d : DescriptorNumbers) (addresses : List RecordNumber) : Type 0 where
+  pub admitted : Admitted (length file) d addresses
+  pub order : d .order ≡ byteOrderOf file

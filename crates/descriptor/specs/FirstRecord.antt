@@ -2,7 +2,6 @@
 use Prim.Native.Nat.{ℕ, _-_, _/_, min}
 use mathlib.Core.List.{List}
 use lib.ListN.{getD}
-use Rattle.image.specs.Image.{part}
 use Rattle.words.specs.Word.{integer4, integer8, bitsAt, bitsOf}
 use Rattle.words.specs.Table.{places}
 use Rattle.geometry.specs.declared.units.RecordNumber.{RecordNumber}
@@ -12,23 +11,21 @@ use Rattle.geometry.specs.Units.{firstRecordOffsetOf, positionOf}
 use Rattle.geometry.specs.Growth.{growthOf}
 use Rattle.descriptor.specs.declared.numbers.Settings.{Settings}
 use Rattle.descriptor.specs.declared.numbers.DescriptorNumbers.{DescriptorNumbers}
-use Rattle.layout.specs.FirstRecordWords.{fileCodeWord, reclenWord, kindWord, vindWord, lindWord, flagsWord, xnextWord, nextrecWord, nextwordWord, lex1Word, nexWord, gexWord, aexWord}
+use Rattle.layout.specs.FileCode.{byteOrderOf}
+use Rattle.layout.specs.FirstRecordWords.{reclenWord, kindWord, vindWord, lindWord, flagsWord, xnextWord, nextrecWord, nextwordWord, lex1Word, nexWord, gexWord, aexWord}
 
--- the code, as four bytes
-unfoldable pub fileCodeOf : List ℕ → List ℕ
-fileCodeOf file = part file (firstRecordOffsetOf fileCodeWord) 4
-
--- the bits of the Integer*4 at a word
+-- the bits of the Integer*4 at a word, in the file's order
 unfoldable pub field4 : List ℕ → WordNumber → ℕ
-field4 file w = bitsAt integer4 file (firstRecordOffsetOf w)
+field4 file w = bitsAt (byteOrderOf file) integer4 file (firstRecordOffsetOf w)
 
 -- and of the Integer*8 at a word and the next
 unfoldable pub field8 : List ℕ → WordNumber → ℕ
-field8 file w = bitsAt integer8 file (firstRecordOffsetOf w)
+field8 file w = bitsAt (byteOrderOf file) integer8 file (firstRecordOffsetOf w)
 
--- the numbers, as bits; the rules say what their signed readings may be
+-- the order that the code says, and the numbers, as bits; the rules say what their signed readings may be
 unfoldable pub numbersOf : List ℕ → DescriptorNumbers
 numbersOf file = record {
+  order = byteOrderOf file;
   reclen = field4 file reclenWord;
   kind = field4 file kindWord;
   vind = field4 file vindWord;
@@ -45,6 +42,7 @@ numbersOf file = record {
 -- the numbers of a new file: the settings, xnext 1, nextrec 2, nextword 1, nex 0
 unfoldable pub createdOf : Settings → DescriptorNumbers
 createdOf s = record {
+  order = record { 0 = bitsOf integer4 (s .order) };
   reclen = bitsOf integer4 (s .reclen);
   kind = bitsOf integer4 (s .kind);
   vind = bitsOf integer4 (s .vind);

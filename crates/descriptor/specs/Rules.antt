@@ -6,7 +6,6 @@ use lib.ListN.{length}
 use lib.Dec.{leb, ltb, eqb}
 use Rattle.words.specs.Word.{integer4, integer8, signedOf}
 use Rattle.words.specs.Range.{within, atLeast}
-use Rattle.words.specs.Code.{sameBytes}
 use Rattle.geometry.specs.declared.units.RecordNumber.{RecordNumber}
 use Rattle.geometry.specs.declared.growth.Growth.{Growth}
 use Rattle.geometry.specs.Units.{positionOf, offsetOf, entriesBefore}
@@ -14,8 +13,7 @@ use Rattle.geometry.specs.Growth.{capacityOf, totalOf, overOf}
 use Rattle.geometry.specs.Area.{areaRecords}
 use Rattle.descriptor.specs.declared.numbers.DescriptorNumbers.{DescriptorNumbers}
 use Rattle.descriptor.specs.Refusal.{Rule, row, refusalIn}
-use Rattle.layout.specs.FirstRecordWords.{fileCode}
-use Rattle.descriptor.specs.FirstRecord.{fileCodeOf, numbersOf, addressesOf, mexOf, growthIn, freeOf}
+use Rattle.descriptor.specs.FirstRecord.{numbersOf, addressesOf, mexOf, growthIn, freeOf}
 use Rattle.descriptor.specs.Areas.{areasStart, areasEnd}
 
 -- n entries fit nex extensions: both are 0, or n is at most the first nex capacities together and more than the first nex - 1 together
@@ -23,9 +21,10 @@ unfoldable pub entriesFit : Growth → ℕ → ℕ → Bool
 entriesFit g zero n = eqb n 0
 entriesFit g (suc k) n = leb n (totalOf g (suc k)) && ltb (totalOf g k) n
 
--- rules 3 to 8: the settings, over the count of bytes lent
+-- rules 2 to 8: the settings, over the count of bytes lent
 abbrev pub settingRules : ℕ → DescriptorNumbers → List Rule
 settingRules bytes d =
+    row 2 (within 0 1 (signedOf integer4 (d .order .0))) ∷
     row 3 (within 16 4096 (signedOf integer4 (d .reclen))) ∷
     row 4 (leb bytes (2 ^ 30)) ∷
     row 4 (eqb (bytes % offsetOf (d .reclen)) 0) ∷
@@ -62,11 +61,9 @@ fillingRefusal bytes d addresses = refusalIn (fillingRules bytes d addresses)
 -- the whole table
 abbrev pub fileRules : List ℕ → DescriptorNumbers → List RecordNumber → List Rule
 fileRules file d addresses =
-    row 1 (leb 64 (length file)) ∷
-    row 2 (sameBytes (fileCodeOf file) fileCode) ∷
-    settingRules (length file) d ++ fillingRules (length file) d addresses
+    row 1 (leb 64 (length file)) ∷ settingRules (length file) d ++ fillingRules (length file) d addresses
 
--- creation's: 1, then 3 to 8
+-- creation's: 1 to 8
 abbrev pub creationRules : ℕ → DescriptorNumbers → List Rule
 creationRules bytes d = row 1 (leb 64 bytes) ∷ settingRules bytes d
 

@@ -7,37 +7,15 @@ use geometry::Growth;
 use geometry::RecordNumber;
 use geometry::byte_offset;
 use geometry::entries_before;
-use geometry::first_record_offset;
 use geometry::position_within;
 use geometry::walk_to;
-use layout::first_record;
 ghost use Prim.Native.Nat.{_≤_};
-ghost use lib.ListN.{length};
 ghost use Rattle.outcome.specs.Outcome.{Answers};
 ghost use Rattle.words.specs.Word.{integer4, signedOf};
 ghost use Rattle.words.specs.Range.{within};
-ghost use Rattle.words.specs.Code.{sameBytes};
 ghost use Rattle.geometry.specs.Growth.{Growing};
-ghost use Rattle.layout.specs.FirstRecordWords.{fileCode};
-ghost use Rattle.descriptor.specs.FirstRecord.{fileCodeOf};
 ghost use Rattle.descriptor.specs.Rules.{entriesFit, settingRefusal, fillingRefusal};
 ghost use Rattle.descriptor.specs.Bounds.{Settled, Lent};
-
-// Whether the file begins with the code.
-pub(crate) fn code_holds(file: &[u8]) -> bool
-    requires { ⌜ 64 ≤ length (now file) ⌝ }
-    ensures { λ r. ⌜ Answers (sameBytes (fileCodeOf (now (file .entry))) fileCode) r ⌝ }
-{
-    let code = first_record::FILE_CODE;
-    words::code_at(
-        file,
-        first_record_offset(first_record::CODE),
-        code[0],
-        code[1],
-        code[2],
-        code[3],
-    )
-}
 
 // Whether the record length is admitted.
 fn reclen_holds(reclen: u64) -> bool
@@ -50,10 +28,13 @@ fn reclen_holds(reclen: u64) -> bool
     )
 }
 
-// Rules 3 to 8, on the numbers and the count of bytes lent: the first that is broken, or 0.
+// Rules 2 to 8, on the numbers and the count of bytes lent: the first that is broken, or 0.
 pub fn setting_refusal(bytes: u64, d: DescriptorNumbers) -> u32
     ensures { λ r. ⌜ Answers (settingRefusal bytes d) r ⌝ }
 {
+    if !words::within4(d.order.0, 0, 1) {
+        return 2;
+    }
     if !reclen_holds(d.reclen) {
         return 3;
     }

@@ -2,12 +2,12 @@
 use super::addresses::addresses_of;
 use super::numbers::DescriptorNumbers;
 use super::numbers::numbers_of;
-use super::rules::code_holds;
 use super::rules::filling_refusal;
 use super::rules::setting_refusal;
 use geometry::EntryNumber;
 use geometry::RecordNumber;
 use geometry::WordNumber;
+use words::ByteOrder;
 ghost use Rattle.outcome.specs.Outcome.{Answers};
 ghost use Rattle.descriptor.specs.Answers.{validationOf, noValidation, noNumbers, validatedCase};
 
@@ -50,15 +50,12 @@ pub fn validate(file: &[u8]) -> Validation
     if bytes < 64 {
         return refused(1);
     }
-    if !code_holds(file) {
-        return refused(2);
-    }
     let d = numbers_of(file);
     let setting = setting_refusal(bytes, d);
     if setting != 0 {
         return refused(setting);
     }
-    let addresses = addresses_of(file, d.nex);
+    let addresses = addresses_of(d.order, file, d.nex);
     let filling = filling_refusal(bytes, d, addresses);
     if filling != 0 {
         return refused(filling);
@@ -75,6 +72,7 @@ fn no_numbers() -> DescriptorNumbers
     ensures { λ r. ⌜ Answers noNumbers r ⌝ }
 {
     DescriptorNumbers {
+        order: ByteOrder(0),
         reclen: 0,
         kind: 0,
         vind: 0,

@@ -27,6 +27,7 @@ use Rattle.descriptor.specs.Bounds.{Admitted}
 use Rattle.descriptor.proofs.Refusals.{refusal-append, refusal-none, all-hold, hold-split}
 use Rattle.descriptor.proofs.Fitting.{fit-reach}
 use Rattle.descriptor.proofs.AreaOrder.{area-ends, area-words, area-first}
+use Rattle.layout.specs.FileCode.{byteOrderOf}
 use Rattle.layout.specs.EntryWords.{entryCode}
 use Rattle.pieces.specs.EntryDescriptor.{entryCodeOf, nsecOf, nwordOf, xnumOf, dataOf}
 use Rattle.pieces.specs.Contents.{dataWithin, sectionsWithin, sectionsApart, dataApart}
@@ -77,7 +78,7 @@ pub record Opens (file : List ℕ) (d : DescriptorNumbers) (e : EntryNumber) (pl
   pub word-low : 1 ≤ place .word .0
   pub word-high : place .word .0 ≤ d .reclen
   pub code : sameBytes (entryCodeOf file (startOf d place)) entryCode ≡ true
-  pub described : Described (length file) (startOf d place) (nsecOf file (startOf d place))
+  pub described : Described (byteOrderOf file) file (startOf d place) (nsecOf file (startOf d place))
   pub nword-low : 11 + 5 * nsecOf file (startOf d place) ≤ nwordOf file (startOf d place)
   pub nword-small : nwordOf file (startOf d place) < 2 ^ 32
   pub ends : startOf d place + nwordOf file (startOf d place) ≤ freeOf d
@@ -120,7 +121,7 @@ afterNumber file d e place = startRules d place ++ afterStart file d e place
 
 -- what the rules up to 16 leave, before the contents are looked at
 pub record Heads (file : List ℕ) (d : DescriptorNumbers) (start : ℕ) : Type 0 where
-  pub described : Described (length file) start (nsecOf file start)
+  pub described : Described (byteOrderOf file) file start (nsecOf file start)
   pub nword-low : 11 + 5 * nsecOf file start ≤ nwordOf file start
   pub nword-small : nwordOf file start < 2 ^ 32
   pub ends : start + nwordOf file start ≤ freeOf d
@@ -135,7 +136,13 @@ module _ (file : List ℕ) (d : DescriptorNumbers) (addresses : List RecordNumbe
       let nsec = within-bounds w32 0 64 (nsecOf file start) (omega arith) (h .1 .0) in
       let nword = atLeast-bounds w64 (11 + 5 * nsecOf file start) (nwordOf file start) (h .1 .1 .0) in
       let ends = leb-true (start + nwordOf file start) (freeOf d) (h .1 .1 .1 .0) in
-      omega (arith, free-within (length file) d addresses a, a .lent .high)
+      let inside = free-within (length file) d addresses a in
+      record {
+        described = record { coded = refl; sections = nsec .1; lent = a .lent .high; within = omega arith };
+        nword-low = nword .0;
+        nword-small = omega (arith, a .lent .high);
+        ends = ends;
+      }
 
 module _ (file : List ℕ) (d : DescriptorNumbers) (addresses : List RecordNumber) (e : EntryNumber) where
   abbrev here : Place

@@ -18,6 +18,7 @@ use Rattle.descriptor.specs.declared.validating.Validation.{Validation}
 use Rattle.descriptor.specs.Bounds.{Admitted}
 use Rattle.descriptor.specs.Rules.{fileRefusal}
 use Rattle.descriptor.specs.Answers.{validationOf}
+use Rattle.layout.specs.FileCode.{byteOrderOf}
 use Rattle.pieces.specs.Contents.{dataWithin, sectionsWithin}
 use Rattle.pieces.specs.Tables.{noSections}
 use Rattle.pieces.specs.Bounds.{Described}
@@ -31,7 +32,7 @@ use Rattle.entry.proofs.Entering.{free-within, entry-opens, entered-num
 pub record Known (file : List ℕ) (d : DescriptorNumbers) (e : EntryNumber) (x : Entered) : Type 0 where
   pub number-low : 1 ≤ e .0
   pub number-high : e .0 ≤ entriesBefore (d .xnext)
-  pub described : Described (length file) (x .start) (x .nsec)
+  pub described : Described (byteOrderOf file) file (x .start) (x .nsec)
   pub nword-small : x .nword < 2 ^ 32
   pub ends : 4 * (x .start + x .nword) ≤ length file
   pub data-within : dataWithin (x .nsec) (x .nword) (x .array) ≡ true

@@ -12,6 +12,7 @@ use Rattle.geometry.specs.declared.units.EntryNumber.{EntryNumber}
 use Rattle.geometry.specs.declared.units.Place.{Place}
 use Rattle.geometry.specs.Units.{positionOf, offsetOf, entriesBefore}
 use Rattle.geometry.specs.Area.{slotOf}
+use Rattle.layout.specs.FileCode.{byteOrderOf}
 use Rattle.layout.specs.EntryWords.{headWords, descriptorWords, sectionsMax, entryCode}
 use Rattle.descriptor.specs.declared.numbers.DescriptorNumbers.{DescriptorNumbers}
 use Rattle.descriptor.specs.Refusal.{Rule, row, refusalIn}
@@ -28,11 +29,11 @@ slotPositionOf d addresses e =
     let s = slotOf (growthIn d) (d .nex) (d .lind) e in
     positionOf (d .reclen) (aexOf addresses (s .extension .0)) (record { 0 = 1 }) + s .offset
 
--- its first three words: the record (Integer*8) and the word (Integer*4) where the entry starts, as stored
+-- its first three words: the record (Integer*8) and the word (Integer*4) where the entry starts, as stored in the file's order
 unfoldable pub placeStored : List ℕ → ℕ → Place
 placeStored file slot = record {
-  «record» = record { 0 = bitsAt integer8 file (offsetOf slot) };
-  word = record { 0 = bitsAt integer4 file (offsetOf (slot + 2)) };
+  «record» = record { 0 = bitsAt (byteOrderOf file) integer8 file (offsetOf slot) };
+  word = record { 0 = bitsAt (byteOrderOf file) integer4 file (offsetOf (slot + 2)) };
 }
 
 -- the position where it starts

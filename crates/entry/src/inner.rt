@@ -21,12 +21,14 @@ use layout::entry_descriptor;
 use pieces::Piece;
 use pieces::word4_at;
 use pieces::word8_at;
+use words::ByteOrder;
 ghost use mathlib.Core.Path.{_≡_};
 ghost use Prim.Native.Nat.{_+_, _*_, _≤_, _<_};
 ghost use lib.ListN.{length};
 ghost use Rattle.outcome.specs.Outcome.{Answers};
 ghost use Rattle.geometry.specs.Units.{entriesBefore};
-ghost use Rattle.descriptor.specs.Bounds.{Admitted};
+ghost use Rattle.layout.specs.FileCode.{byteOrderOf};
+ghost use Rattle.descriptor.specs.Bounds.{Admitted, AdmittedIn};
 ghost use Rattle.entry.specs.Opening.{slotPositionOf, placeStored, entryRefusal, enteredOf, extentOf};
 
 // Where an entry starts, and the position behind it.
@@ -51,13 +53,13 @@ pub fn slot_position(
 }
 
 // The place that is stored at a slot.
-fn place_stored(file: &[u8], slot: u64) -> Place
-    requires { ⌜ 4 * (slot + 3) ≤ length (now file) ⌝ }
+fn place_stored(order: ByteOrder, file: &[u8], slot: u64) -> Place
+    requires { ⌜ (order ≡ byteOrderOf (now file)) × (4 * (slot + 3) ≤ length (now file)) ⌝ }
     ensures { λ r. ⌜ Answers (placeStored (now (file .entry)) slot) r ⌝ }
 {
     Place {
-        record: RecordNumber(words::u64_at(file, byte_offset(slot))),
-        word: WordNumber(words::u32_at(file, byte_offset(slot + 2)) as u64),
+        record: RecordNumber(words::u64_at(order, file, byte_offset(slot))),
+        word: WordNumber(words::u32_at(order, file, byte_offset(slot + 2)) as u64),
     }
 }
 
@@ -68,7 +70,7 @@ pub fn enter(
     addresses: [RecordNumber; 16],
     number: EntryNumber,
 ) -> Entered
-    requires { ⌜ Admitted (length (now file)) d addresses ⌝ }
+    requires { ⌜ AdmittedIn (now file) d addresses ⌝ }
     ensures { λ r. ⌜ Answers (enteredOf (now (file .entry)) d addresses number) r ⌝ }
 {
     if number.0 < 1 {
@@ -77,7 +79,8 @@ pub fn enter(
     if entries_before(d.xnext) < number.0 {
         return refused(12);
     }
-    let place = place_stored(file, slot_position(file.len() as u64, d, addresses, number));
+    let slot = slot_position(file.len() as u64, d, addresses, number);
+    let place = place_stored(d.order, file, slot);
     let outside = start_refusal(d, place);
     if outside != 0 {
         return refused(outside);
@@ -87,13 +90,13 @@ pub fn enter(
     if head != 0 {
         return refused(head);
     }
-    let nsec = word4_at(file, start, entry_descriptor::NSEC);
-    let nword = word8_at(file, start, entry_descriptor::NWORD);
+    let nsec = word4_at(d.order, file, start, entry_descriptor::NSEC);
+    let nword = word8_at(d.order, file, start, entry_descriptor::NWORD);
     let array = Piece {
-        address: EntryAddress(word8_at(file, start, entry_descriptor::ADATA)),
-        words: word8_at(file, start, entry_descriptor::LDATA),
+        address: EntryAddress(word8_at(d.order, file, start, entry_descriptor::ADATA)),
+        words: word8_at(d.order, file, start, entry_descriptor::LDATA),
     };
-    let content = content_refusal(file, start, nsec, nword, array);
+    let content = content_refusal(d.order, file, start, nsec, nword, array);
     if content != 0 {
         return refused(content);
     }
@@ -102,7 +105,7 @@ pub fn enter(
         refusal: 0,
         place,
         start,
-        version: words::i32_at(file, version),
+        version: words::i32_at(d.order, file, version),
         nsec,
         nword,
         array,
@@ -116,13 +119,14 @@ pub fn extent_of(
     addresses: [RecordNumber; 16],
     number: EntryNumber,
 ) -> Extent
-    requires { ⌜ Admitted (length (now file)) d addresses × (entryRefusal (now file) d addresses number ≡ 0) ⌝ }
+    requires { ⌜ AdmittedIn (now file) d addresses × (entryRefusal (now file) d addresses number ≡ 0) ⌝ }
     ensures { λ r. ⌜ Answers (extentOf (now (file .entry)) d addresses number) r ⌝ }
 {
-    let place = place_stored(file, slot_position(file.len() as u64, d, addresses, number));
+    let slot = slot_position(file.len() as u64, d, addresses, number);
+    let place = place_stored(d.order, file, slot);
     let start = position(d.reclen, place.record, place.word);
     Extent {
         start,
-        end: start + word8_at(file, start, entry_descriptor::NWORD),
+        end: start + word8_at(d.order, file, start, entry_descriptor::NWORD),
     }
 }

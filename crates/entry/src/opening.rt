@@ -41,6 +41,6 @@ pub fn open_entry(file: &[u8], number: EntryNumber) -> Opened
     };
     Opened {
         answer: Open::Numbers(place, entered.version, entered.nsec, entered.nword, stored),
-        sections: section_tables(file, entered.start, entered.nsec),
+        sections: section_tables(d.order, file, entered.start, entered.nsec),
     }
 }

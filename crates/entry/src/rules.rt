@@ -15,9 +15,12 @@ use pieces::sections_apart;
 use pieces::sections_within;
 use pieces::word4_at;
 use pieces::word8_at;
+use words::ByteOrder;
+ghost use mathlib.Core.Path.{_≡_};
 ghost use Prim.Native.Nat.{_+_, _*_, _^_, _≤_, _<_};
 ghost use lib.ListN.{length};
 ghost use Rattle.outcome.specs.Outcome.{Answers};
+ghost use Rattle.layout.specs.FileCode.{byteOrderOf};
 ghost use Rattle.layout.specs.EntryWords.{headWords};
 ghost use Rattle.descriptor.specs.FirstRecord.{freeOf};
 ghost use Rattle.descriptor.specs.Bounds.{Settled, Free};
@@ -54,7 +57,7 @@ pub(crate) fn head_refusal(
     start: u64,
     number: EntryNumber,
 ) -> u32
-    requires { ⌜ (d .reclen ≤ 4096) × Free d × (start + headWords ≤ freeOf d) × (4 * freeOf d ≤ length (now file)) ⌝ }
+    requires { ⌜ (d .reclen ≤ 4096) × Free d × (start + headWords ≤ freeOf d) × (4 * freeOf d ≤ length (now file)) × (d .order ≡ byteOrderOf (now file)) ⌝ }
     ensures { λ r. ⌜ Answers (headRefusal (now (file .entry)) d start number) r ⌝ }
 {
     let code = entry_descriptor::ENTRY_CODE;
@@ -62,26 +65,26 @@ pub(crate) fn head_refusal(
     if !words::code_at(file, at, code[0], code[1], code[2], code[3]) {
         return 14;
     }
-    let nsec = word4_at(file, start, entry_descriptor::NSEC);
+    let nsec = word4_at(d.order, file, start, entry_descriptor::NSEC);
     if !words::within4(nsec, 0, entry_descriptor::SECTIONS_MAX) {
         return 15;
     }
-    let nword = word8_at(file, start, entry_descriptor::NWORD);
+    let nword = word8_at(d.order, file, start, entry_descriptor::NWORD);
     if !words::at_least8(nword, descriptor_words(nsec)) {
         return 15;
     }
     if free_position(d) < start + nword {
         return 15;
     }
-    if word8_at(file, start, entry_descriptor::XNUM) != number.0 {
+    if word8_at(d.order, file, start, entry_descriptor::XNUM) != number.0 {
         return 16;
     }
     0
 }
 
 // Rules 17 to 19, what the entry at a position holds: the first that is broken, or 0.
-pub(crate) fn content_refusal(file: &[u8], start: u64, nsec: u64, nword: u64, array: Piece) -> u32
-    requires { ⌜ Described (length (now file)) start nsec × (nword < 2 ^ 32) ⌝ }
+pub(crate) fn content_refusal(order: ByteOrder, file: &[u8], start: u64, nsec: u64, nword: u64, array: Piece) -> u32
+    requires { ⌜ Described order (now file) start nsec × (nword < 2 ^ 32) ⌝ }
     ensures { λ r. ⌜ Answers (contentRefusal (now (file .entry)) start nsec nword array) r ⌝ }
 {
     if !words::at_least8(array.words, 0) {
@@ -90,13 +93,13 @@ pub(crate) fn content_refusal(file: &[u8], start: u64, nsec: u64, nword: u64, ar
     if !data_within(nsec, nword, array) {
         return 17;
     }
-    if !sections_within(file, start, nsec, nword) {
+    if !sections_within(order, file, start, nsec, nword) {
         return 18;
     }
-    if !sections_apart(file, start, nsec, nword) {
+    if !sections_apart(order, file, start, nsec, nword) {
         return 19;
     }
-    if !data_apart(file, start, nsec, nword, array) {
+    if !data_apart(order, file, start, nsec, nword, array) {
         return 19;
     }
     0

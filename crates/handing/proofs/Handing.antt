@@ -54,7 +54,7 @@ unfolding partIn
 whole-inside file f inside = by (validationOf file .numbers) refl
   where
     by : (case : Validated) → validationOf file .numbers ≡ case → Inside (length file) (partIn case (f (validationOf file .addresses)))
-    by (Numbers d) q = inside (validationOf file .addresses) d (told file (validationOf file) d refl q .admitted)
+    by (Numbers d) q = inside (validationOf file .addresses) d (told file (validationOf file) d refl q .admitted .admitted)
     by (Refused n) q = omega arith
 
 -- which part it is, by the validation's case

@@ -10,9 +10,8 @@ use geometry::entry_position;
 use pieces::section_at;
 use pieces::section_named;
 ghost use Prim.Native.Nat.{_+_, _^_, _<_};
-ghost use lib.ListN.{length};
 ghost use Rattle.outcome.specs.Outcome.{Answers};
-ghost use Rattle.descriptor.specs.Bounds.{Admitted};
+ghost use Rattle.descriptor.specs.Bounds.{AdmittedIn};
 ghost use Rattle.handing.specs.Parts.{indexPart, sectionPart, dataPart, noPart, wordsFrom};
 
 // A part with a refusal, or with nothing in it.
@@ -46,7 +45,7 @@ pub fn index_part(
     addresses: [RecordNumber; 16],
     number: EntryNumber,
 ) -> PartPlace
-    requires { ⌜ Admitted (length (now file)) d addresses ⌝ }
+    requires { ⌜ AdmittedIn (now file) d addresses ⌝ }
     ensures { λ r. ⌜ Answers (indexPart (now (file .entry)) d addresses number) r ⌝ }
 {
     let entered = enter(file, d, addresses, number);
@@ -65,18 +64,18 @@ pub fn section_part(
     number: EntryNumber,
     identifier: i32,
 ) -> PartPlace
-    requires { ⌜ Admitted (length (now file)) d addresses ⌝ }
+    requires { ⌜ AdmittedIn (now file) d addresses ⌝ }
     ensures { λ r. ⌜ Answers (sectionPart (now (file .entry)) d addresses number identifier) r ⌝ }
 {
     let entered = enter(file, d, addresses, number);
     if entered.refusal != 0 {
         return no_part(entered.refusal);
     }
-    let found = section_named(file, entered.start, entered.nsec, identifier);
+    let found = section_named(d.order, file, entered.start, entered.nsec, identifier);
     if entered.nsec <= found {
         return no_part(20);
     }
-    let piece = section_at(file, entered.start, entered.nsec, found);
+    let piece = section_at(d.order, file, entered.start, entered.nsec, found);
     words_from(entry_position(entered.start, piece.address), piece.words)
 }
 
@@ -87,7 +86,7 @@ pub fn data_part(
     addresses: [RecordNumber; 16],
     number: EntryNumber,
 ) -> PartPlace
-    requires { ⌜ Admitted (length (now file)) d addresses ⌝ }
+    requires { ⌜ AdmittedIn (now file) d addresses ⌝ }
     ensures { λ r. ⌜ Answers (dataPart (now (file .entry)) d addresses number) r ⌝ }
 {
     let entered = enter(file, d, addresses, number);

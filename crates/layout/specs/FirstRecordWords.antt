@@ -1,13 +1,12 @@
--- The words of the first record (the memo's Table 1), each by its number, and the code that the first holds.
+-- The words of the first record (the memo's Table 1), each by its number.
 use Prim.Native.Nat.{ℕ, _+_, _*_}
-use mathlib.Core.List.{List, [], _∷_}
 use Rattle.geometry.specs.declared.units.WordNumber.{WordNumber}
 
 -- word n
 abbrev word : ℕ → WordNumber
 word n = record { 0 = n }
 
--- word 1: the file's code
+-- word 1: the file's code (FileCode.antt)
 abbrev pub fileCodeWord : WordNumber
 fileCodeWord = word 1
 
@@ -58,7 +57,3 @@ gexWord = word 14
 -- from word 15: aex, two words for each extension: the first record of the index area of extension i + 1
 abbrev pub aexWord : ℕ → WordNumber
 aexWord i = word (15 + 2 * i)
-
--- the file code: 32 41 20 20
-abbrev pub fileCode : List ℕ
-fileCode = 0x32 ∷ 0x41 ∷ 0x20 ∷ 0x20 ∷ []

@@ -1,4 +1,4 @@
-// The words of the first record, each by its number, and the code that the first holds.
+// The words of the first record, each by its number.
 use geometry::ExtensionNumber;
 use geometry::WordNumber;
 use geometry::table_index;
@@ -6,8 +6,6 @@ ghost use Prim.Native.Nat.{_≤_};
 ghost use Rattle.outcome.specs.Outcome.{Answers};
 ghost use Rattle.geometry.specs.Units.{indexOf};
 ghost use Rattle.layout.specs.FirstRecordWords.{aexWord};
-
-pub const FILE_CODE: [u8; 4] = [0x32, 0x41, 0x20, 0x20];
 
 pub const CODE: WordNumber = WordNumber(1);
 

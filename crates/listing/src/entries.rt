@@ -10,7 +10,7 @@ ghost use Prim.Native.Nat.{_+_, _≤_};
 ghost use lib.ListN.{length};
 ghost use Rattle.outcome.specs.Outcome.{Answers, Leaves};
 ghost use Rattle.image.specs.Image.{splice};
-ghost use Rattle.descriptor.specs.Bounds.{Admitted};
+ghost use Rattle.descriptor.specs.Bounds.{AdmittedIn};
 ghost use Rattle.listing.specs.Text.{joined};
 ghost use Rattle.listing.specs.Buffer.{HandsOver};
 ghost use Rattle.listing.specs.Listing.{rowsOf, entriesListing};
@@ -20,7 +20,7 @@ const HEADER_LENGTH: usize = 38;
 
 // The length of all rows together: each entry is opened, and its row measured.
 fn rows_length(file: &[u8], d: DescriptorNumbers, addresses: [RecordNumber; 16]) -> usize
-    requires { ⌜ Admitted (length (now file)) d addresses ⌝ }
+    requires { ⌜ AdmittedIn (now file) d addresses ⌝ }
     ensures { λ r. ⌜ Answers (length (joined (rowsOf (now (file .entry)) d addresses))) r ⌝ }
 {
     let entries = entries_before(d.xnext);
@@ -43,7 +43,7 @@ fn put_rows(
     out: &mut [u8],
     at: usize,
 )
-    requires { ⌜ Admitted (length (now file)) d addresses × (at + length (joined (rowsOf (now file) d addresses)) ≤ length (now out)) ⌝ }
+    requires { ⌜ AdmittedIn (now file) d addresses × (at + length (joined (rowsOf (now file) d addresses)) ≤ length (now out)) ⌝ }
     ensures { λ _. ⌜ Leaves (splice (now (out .entry)) at (joined (rowsOf (now (file .entry)) d addresses))) (now (out .exit)) ⌝ }
 {
     let entries = entries_before(d.xnext);
@@ -64,7 +64,7 @@ pub(crate) fn list_entries(
     addresses: [RecordNumber; 16],
     out: &mut [u8],
 ) -> usize
-    requires { ⌜ Admitted (length (now file)) d addresses ⌝ }
+    requires { ⌜ AdmittedIn (now file) d addresses ⌝ }
     ensures { λ r. ⌜ HandsOver (entriesListing (now (file .entry)) d addresses) (now (out .entry)) r (now (out .exit)) ⌝ }
 {
     let count = HEADER_LENGTH + rows_length(file, d, addresses);

@@ -11,14 +11,13 @@ use geometry::entries_before;
 use geometry::slot_in;
 use geometry::walk_begun;
 use geometry::walk_to_entry;
-ghost use lib.ListN.{length};
 ghost use Rattle.outcome.specs.Outcome.{Answers};
-ghost use Rattle.descriptor.specs.Bounds.{Admitted};
+ghost use Rattle.descriptor.specs.Bounds.{AdmittedIn};
 ghost use Rattle.order.specs.Order.{checkedAll};
 
 // The first entry that fails, with its refusal, or 0 and 0.
 pub fn check_entries(file: &[u8], d: DescriptorNumbers, addresses: [RecordNumber; 16]) -> Checked
-    requires { ⌜ Admitted (length (now file)) d addresses ⌝ }
+    requires { ⌜ AdmittedIn (now file) d addresses ⌝ }
     ensures { λ r. ⌜ Answers (checkedAll (now (file .entry)) d addresses) r ⌝ }
 {
     let bytes = file.len() as u64;

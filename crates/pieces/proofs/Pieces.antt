@@ -7,15 +7,17 @@ use Prim.Native.Nat.{ℕ, _+_, _^_, _≤_, _<_}
 use native.Mathlib.Omega.{arith}
 use native.Mathlib.Numerals.{add-one}
 use borrow.Author.Tests.{leb-true, le-leb, ne-eqb}
+use Rattle.words.specs.declared.order.ByteOrder.{ByteOrder}
 use Rattle.words.specs.Word.{integer8, signedOf}
 use Rattle.words.specs.Range.{atLeast}
 use Rattle.words.proofs.Ranges.{atLeast-bounds}
 use Rattle.words.proofs.Runs.{Run, run-test}
+use Rattle.layout.specs.FileCode.{byteOrderOf}
 use Rattle.layout.specs.EntryWords.{firstContent}
 use Rattle.pieces.specs.declared.contents.Piece.{Piece}
 use Rattle.pieces.specs.EntryDescriptor.{sectionOf}
 use Rattle.pieces.specs.Contents.{pieceWithin, dataWithin, sectionsWithin, apart, apartFrom, sectionsApart}
-use Rattle.pieces.specs.Bounds.{Small}
+use Rattle.pieces.specs.Bounds.{Described, Small}
 
 -- a piece with a word at least, within the words that content may have, and so with an end that fits
 pub record Placed (nsec nword : ℕ) (p : Piece) : Type 0 where
@@ -23,6 +25,10 @@ pub record Placed (nsec nword : ℕ) (p : Piece) : Type 0 where
   pub first : firstContent nsec .0 ≤ p .address .0
   pub last : p .address .0 + p .words ≤ nword + 1
   pub small : Small p
+
+-- a descriptor within a file of bytes in an order, which is the one that its code says
+pub described-in : {o : ByteOrder} {file : List ℕ} {start nsec : ℕ} → o ≡ byteOrderOf file → Described (byteOrderOf file) file start nsec → Described o file start nsec
+described-in e h = record { coded = e; sections = h .sections; lent = h .lent; within = h .within }
 
 -- the bounds that the test of a piece leaves
 within-bounds : (nsec nword : ℕ) (p : Piece) → pieceWithin nsec nword p ≡ true

@@ -7,6 +7,7 @@ use Rattle.image.specs.Image.{part}
 use Rattle.words.specs.Word.{integer4, integer8, bitsAt, signedOf}
 use Rattle.geometry.specs.declared.units.EntryAddress.{EntryAddress}
 use Rattle.geometry.specs.Units.{entryPositionOf, offsetOf}
+use Rattle.layout.specs.FileCode.{byteOrderOf}
 use Rattle.layout.specs.EntryWords.{entryCodeWord, versionWord, nsecWord, nwordWord, adataWord, ldataWord, xnumWord, identifierWord, lengthWord, addressWord}
 use Rattle.pieces.specs.declared.contents.Piece.{Piece}
 
@@ -14,13 +15,13 @@ use Rattle.pieces.specs.declared.contents.Piece.{Piece}
 abbrev pub wordOffset : ℕ → EntryAddress → ℕ
 wordOffset start a = offsetOf (entryPositionOf start a)
 
--- the bits of the Integer*4 at a word
+-- the bits of the Integer*4 at a word, in the file's order
 unfoldable pub word4 : List ℕ → ℕ → EntryAddress → ℕ
-word4 file start a = bitsAt integer4 file (wordOffset start a)
+word4 file start a = bitsAt (byteOrderOf file) integer4 file (wordOffset start a)
 
 -- the bits of the Integer*8 at a word and the next
 unfoldable pub word8 : List ℕ → ℕ → EntryAddress → ℕ
-word8 file start a = bitsAt integer8 file (wordOffset start a)
+word8 file start a = bitsAt (byteOrderOf file) integer8 file (wordOffset start a)
 
 -- the code, as four bytes
 unfoldable pub entryCodeOf : List ℕ → ℕ → List ℕ

@@ -1,18 +1,20 @@
 // What an entry holds: its sections and its data, each a piece of it, tested as it stands in the file.
 //
 // An entry is known by the position of its first word. The descriptor with its tables lies within the
-// file, which the functions require.
+// file, and the order is the one that the file's code says, which the functions require.
 use geometry::EntryAddress;
 use geometry::byte_offset;
 use geometry::entry_position;
 use layout::entry_descriptor::address_word;
 use layout::entry_descriptor::first_content;
 use layout::entry_descriptor::length_word;
+use words::ByteOrder;
 ghost use mathlib.Core.Path.{_≡_};
 ghost use mathlib.Core.Bool.{true};
 ghost use Prim.Native.Nat.{_+_, _*_, _^_, _≤_, _<_};
 ghost use lib.ListN.{length};
 ghost use Rattle.outcome.specs.Outcome.{Answers};
+ghost use Rattle.layout.specs.FileCode.{byteOrderOf};
 ghost use Rattle.layout.specs.EntryWords.{sectionsMax};
 ghost use Rattle.pieces.specs.EntryDescriptor.{word4, word8, sectionOf};
 ghost use Rattle.pieces.specs.Contents.{pieceWithin, dataWithin, sectionsWithin, apart, apartFrom, sectionsApart, dataApart};
@@ -25,29 +27,29 @@ pub struct Piece {
 }
 
 // The bits of the Integer*4 at a word of the entry.
-pub fn word4_at(file: &[u8], start: u64, address: EntryAddress) -> u64
-    requires { ⌜ (1 ≤ address .0) × (4 * (start + address .0) ≤ length (now file)) ⌝ }
+pub fn word4_at(order: ByteOrder, file: &[u8], start: u64, address: EntryAddress) -> u64
+    requires { ⌜ (order ≡ byteOrderOf (now file)) × (1 ≤ address .0) × (4 * (start + address .0) ≤ length (now file)) ⌝ }
     ensures { λ r. ⌜ Answers (word4 (now (file .entry)) start address) r ⌝ }
 {
-    words::u32_at(file, byte_offset(entry_position(start, address))) as u64
+    words::u32_at(order, file, byte_offset(entry_position(start, address))) as u64
 }
 
 // The bits of the Integer*8 at a word of the entry and the next.
-pub fn word8_at(file: &[u8], start: u64, address: EntryAddress) -> u64
-    requires { ⌜ (1 ≤ address .0) × (4 * (start + address .0 + 1) ≤ length (now file)) ⌝ }
+pub fn word8_at(order: ByteOrder, file: &[u8], start: u64, address: EntryAddress) -> u64
+    requires { ⌜ (order ≡ byteOrderOf (now file)) × (1 ≤ address .0) × (4 * (start + address .0 + 1) ≤ length (now file)) ⌝ }
     ensures { λ r. ⌜ Answers (word8 (now (file .entry)) start address) r ⌝ }
 {
-    words::u64_at(file, byte_offset(entry_position(start, address)))
+    words::u64_at(order, file, byte_offset(entry_position(start, address)))
 }
 
 // Section `i`, counted from 0.
-pub fn section_at(file: &[u8], start: u64, nsec: u64, i: u64) -> Piece
-    requires { ⌜ Described (length (now file)) start nsec × (i < nsec) ⌝ }
+pub fn section_at(order: ByteOrder, file: &[u8], start: u64, nsec: u64, i: u64) -> Piece
+    requires { ⌜ Described order (now file) start nsec × (i < nsec) ⌝ }
     ensures { λ r. ⌜ Answers (sectionOf (now (file .entry)) start nsec i) r ⌝ }
 {
     Piece {
-        address: EntryAddress(word8_at(file, start, address_word(nsec, i))),
-        words: word8_at(file, start, length_word(nsec, i)),
+        address: EntryAddress(word8_at(order, file, start, address_word(nsec, i))),
+        words: word8_at(order, file, start, length_word(nsec, i)),
     }
 }
 
@@ -74,13 +76,13 @@ pub fn data_within(nsec: u64, nword: u64, piece: Piece) -> bool
 }
 
 // Whether each section has a word at least and lies within the words that content may have.
-pub fn sections_within(file: &[u8], start: u64, nsec: u64, nword: u64) -> bool
-    requires { ⌜ Described (length (now file)) start nsec × (nword < 2 ^ 32) ⌝ }
+pub fn sections_within(order: ByteOrder, file: &[u8], start: u64, nsec: u64, nword: u64) -> bool
+    requires { ⌜ Described order (now file) start nsec × (nword < 2 ^ 32) ⌝ }
     ensures { λ r. ⌜ Answers (sectionsWithin (now (file .entry)) start nsec nword nsec) r ⌝ }
 {
     let mut passed = 0;
     while passed < nsec {
-        let section = section_at(file, start, nsec, passed);
+        let section = section_at(order, file, start, nsec, passed);
         if !words::at_least8(section.words, 1) {
             return false;
         }
@@ -104,13 +106,21 @@ fn pieces_apart(first: Piece, second: Piece) -> bool
 }
 
 // Whether a piece shares no word with one of the first `count` sections.
-fn apart_from(file: &[u8], start: u64, nsec: u64, nword: u64, piece: Piece, count: u64) -> bool
-    requires { ⌜ Described (length (now file)) start nsec × (nword < 2 ^ 32) × (sectionsWithin (now file) start nsec nword nsec ≡ true) × Small piece × (count ≤ nsec) ⌝ }
+fn apart_from(
+    order: ByteOrder,
+    file: &[u8],
+    start: u64,
+    nsec: u64,
+    nword: u64,
+    piece: Piece,
+    count: u64,
+) -> bool
+    requires { ⌜ Described order (now file) start nsec × (nword < 2 ^ 32) × (sectionsWithin (now file) start nsec nword nsec ≡ true) × Small piece × (count ≤ nsec) ⌝ }
     ensures { λ r. ⌜ Answers (apartFrom (now (file .entry)) start nsec piece count) r ⌝ }
 {
     let mut passed = 0;
     while passed < count {
-        let section = section_at(file, start, nsec, passed);
+        let section = section_at(order, file, start, nsec, passed);
         if !pieces_apart(section, piece) {
             return false;
         }
@@ -120,14 +130,14 @@ fn apart_from(file: &[u8], start: u64, nsec: u64, nword: u64, piece: Piece, coun
 }
 
 // Whether no two sections share a word.
-pub fn sections_apart(file: &[u8], start: u64, nsec: u64, nword: u64) -> bool
-    requires { ⌜ Described (length (now file)) start nsec × (nword < 2 ^ 32) × (sectionsWithin (now file) start nsec nword nsec ≡ true) ⌝ }
+pub fn sections_apart(order: ByteOrder, file: &[u8], start: u64, nsec: u64, nword: u64) -> bool
+    requires { ⌜ Described order (now file) start nsec × (nword < 2 ^ 32) × (sectionsWithin (now file) start nsec nword nsec ≡ true) ⌝ }
     ensures { λ r. ⌜ Answers (sectionsApart (now (file .entry)) start nsec nsec) r ⌝ }
 {
     let mut passed = 0;
     while passed < nsec {
-        let section = section_at(file, start, nsec, passed);
-        if !apart_from(file, start, nsec, nword, section, passed) {
+        let section = section_at(order, file, start, nsec, passed);
+        if !apart_from(order, file, start, nsec, nword, section, passed) {
             return false;
         }
         passed += 1;
@@ -136,12 +146,19 @@ pub fn sections_apart(file: &[u8], start: u64, nsec: u64, nword: u64) -> bool
 }
 
 // Whether the data, where there is any, shares no word with a section.
-pub fn data_apart(file: &[u8], start: u64, nsec: u64, nword: u64, piece: Piece) -> bool
-    requires { ⌜ Described (length (now file)) start nsec × (nword < 2 ^ 32) × (sectionsWithin (now file) start nsec nword nsec ≡ true) × (dataWithin nsec nword piece ≡ true) ⌝ }
+pub fn data_apart(
+    order: ByteOrder,
+    file: &[u8],
+    start: u64,
+    nsec: u64,
+    nword: u64,
+    piece: Piece,
+) -> bool
+    requires { ⌜ Described order (now file) start nsec × (nword < 2 ^ 32) × (sectionsWithin (now file) start nsec nword nsec ≡ true) × (dataWithin nsec nword piece ≡ true) ⌝ }
     ensures { λ r. ⌜ Answers (dataApart (now (file .entry)) start nsec piece) r ⌝ }
 {
     if piece.words == 0 {
         return true;
     }
-    apart_from(file, start, nsec, nword, piece, nsec)
+    apart_from(order, file, start, nsec, nword, piece, nsec)
 }

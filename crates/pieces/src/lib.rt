@@ -1,7 +1,8 @@
 // What stands in an entry's words: its numbers, its sections and its data, each of these a piece of it.
 //
 // An entry is known by the position of its first word. The functions read its words and tables, and
-// test where its pieces stand. They are for entries whose words lie within the file, which they require.
+// test where its pieces stand. They are for entries whose words lie within the file, read in the order that
+// its code says, which they require.
 mod contents;
 mod tables;
 

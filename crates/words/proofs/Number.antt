@@ -1,26 +1,123 @@
--- Laws of `number` and `numeral`, over the width: lengths, and the number read back from its bytes. Assumes nothing.
-use Prim.Native.Nat.{ℕ, zero, suc, _+_, _*_, _/_, _^_, _<_}
-use mathlib.Core.Path.{_≡_, refl, ap}
-use mathlib.Core.List.{List, [], _∷_, _++_}
+-- Laws of `number` and `numeral`, over the order and the width: lengths, the number read back from its bytes, and bytes turned by their number. Assumes nothing.
+use Prim.Native.Nat.{ℕ, zero, suc, _+_, _*_, _/_, _%_, _^_, _<_}
+use mathlib.Core.Path.{_≡_, refl, ap, _∙_, subst}
+use mathlib.Core.Bool.{true, false, cond}
+use mathlib.Core.List.{List, [], _∷_, _++_, reverse, reverseAux, reverse-reverse}
 use native.Mathlib.Omega.{arith}
 use native.Mathlib.Nat.{mul-assoc, pow-succ', pow-suc}
-use lib.ListN.{length}
-use Rattle.words.specs.Word.{number, numeral}
+use lib.Dec.{eqb}
+use lib.ListN.{length, getD, take, drop, length-reverse}
+use Rattle.outcome.proofs.Either.{either}
+use Rattle.image.specs.Image.{part}
+use Rattle.words.specs.declared.order.ByteOrder.{ByteOrder}
+use Rattle.words.specs.Word.{littleNumber, littleNumeral, inOrder, number, numeral}
 
--- a number in n bytes has n bytes
-pub length-numeral : (n x : ℕ) → length (numeral n x) ≡ n
-unfolding numeral
-length-numeral zero x = refl
-length-numeral (suc n) x = ap suc (length-numeral n (x / 256))
+-- ---- the least significant byte first
 
--- the number of the bytes of a number is that number
-pub number-numeral : (n x : ℕ) → x < 256 ^ n → number (numeral n x) ≡ x
-unfolding number numeral
-number-numeral zero x h = omega arith
-number-numeral (suc n) x h = rw (number-numeral n (x / 256) (omega (arith, pow-suc 256 n))) (omega arith)
+length-little : (n x : ℕ) → length (littleNumeral n x) ≡ n
+unfolding littleNumeral
+length-little zero x = refl
+length-little (suc n) x = ap suc (length-little n (x / 256))
+
+little-back : (n x : ℕ) → x < 256 ^ n → littleNumber (littleNumeral n x) ≡ x
+unfolding littleNumber littleNumeral
+little-back zero x h = omega arith
+little-back (suc n) x h = rw (little-back n (x / 256) (omega (arith, pow-suc 256 n))) (omega arith)
 
 -- the number of bytes in two runs
-pub number-append : (xs ys : List ℕ) → number (xs ++ ys) ≡ number xs + 256 ^ length xs * number ys
-unfolding number
-number-append [] ys = omega arith
-number-append (x ∷ xs) ys = rw (number-append xs ys, pow-succ', mul-assoc) (omega arith)
+pub little-append : (xs ys : List ℕ) → littleNumber (xs ++ ys) ≡ littleNumber xs + 256 ^ length xs * littleNumber ys
+unfolding littleNumber
+little-append [] ys = omega arith
+little-append (x ∷ xs) ys = rw (little-append xs ys, pow-succ', mul-assoc) (omega arith)
+
+-- ---- bytes, and what keeps them such
+
+-- each of a list is a byte
+abbrev pub Bytes : List ℕ → Type 0
+Bytes [] = Unit
+Bytes (b ∷ bs) = (b < 256) × Bytes bs
+
+bytes-numeral : (n x : ℕ) → Bytes (littleNumeral n x)
+unfolding littleNumeral
+bytes-numeral zero x = tt
+bytes-numeral (suc n) x = (omega arith, bytes-numeral n (x / 256))
+
+bytes-onto : (xs ys : List ℕ) → Bytes xs → Bytes ys → Bytes (reverseAux xs ys)
+bytes-onto [] ys h k = k
+bytes-onto (x ∷ xs) ys h k = bytes-onto xs (x ∷ ys) (h .1) (h .0, k)
+
+bytes-drop : (n : ℕ) (xs : List ℕ) → Bytes xs → Bytes (drop n xs)
+bytes-drop zero xs h = h
+bytes-drop (suc n) [] h = tt
+bytes-drop (suc n) (x ∷ xs) h = bytes-drop n xs (h .1)
+
+bytes-take : (n : ℕ) (xs : List ℕ) → Bytes xs → Bytes (take n xs)
+bytes-take zero xs h = tt
+bytes-take (suc n) [] h = tt
+bytes-take (suc n) (x ∷ xs) h = (h .0, bytes-take n xs (h .1))
+
+bytes-each : (xs : List ℕ) → ((i : ℕ) → getD xs i 0 < 256) → Bytes xs
+bytes-each [] h = tt
+bytes-each (x ∷ xs) h = (h 0, bytes-each xs (λ i. h (suc i)))
+
+-- a part of an image of bytes
+pub bytes-part : (image : List ℕ) (at n : ℕ) → ((i : ℕ) → getD image i 0 < 256) → Bytes (part image at n)
+unfolding part
+bytes-part image at n h = bytes-take n (drop at image) (bytes-drop at image (bytes-each image h))
+
+-- the bytes of the number of bytes are those bytes
+numeral-back : (bs : List ℕ) → Bytes bs → littleNumeral (length bs) (littleNumber bs) ≡ bs
+unfolding littleNumber littleNumeral
+numeral-back [] h = refl
+numeral-back (b ∷ bs) h =
+    let low : (b + 256 * littleNumber bs) % 256 ≡ b = omega arith in
+    let rest : (b + 256 * littleNumber bs) / 256 ≡ littleNumber bs = omega arith in
+    rw (low, rest, numeral-back bs (h .1))
+
+-- ---- in either order
+
+in-order-twice : (o : ByteOrder) (bs : List ℕ) → inOrder o (inOrder o bs) ≡ bs
+unfolding inOrder
+in-order-twice o bs = either (eqb (o .0) 0) (λ e. rw e) (λ e. rw e (reverse-reverse bs))
+
+length-in-order : (o : ByteOrder) (bs : List ℕ) → length (inOrder o bs) ≡ length bs
+unfolding inOrder
+length-in-order o bs = either (eqb (o .0) 0) (λ e. rw e) (λ e. rw e (length-reverse bs))
+
+bytes-in-order : (o : ByteOrder) (bs : List ℕ) → Bytes bs → Bytes (inOrder o bs)
+unfolding inOrder
+bytes-in-order o bs h = either (eqb (o .0) 0) (λ e. rw e h) (λ e. rw e (bytes-onto bs [] h tt))
+
+-- a number in n bytes has n bytes
+pub length-numeral : (o : ByteOrder) (n x : ℕ) → length (numeral o n x) ≡ n
+unfolding numeral
+length-numeral o n x = length-in-order o (littleNumeral n x) ∙ length-little n x
+
+-- the number of the bytes of a number is that number
+pub number-numeral : (o : ByteOrder) (n x : ℕ) → x < 256 ^ n → number o (numeral o n x) ≡ x
+unfolding number numeral
+number-numeral o n x h = ap littleNumber (in-order-twice o (littleNumeral n x)) ∙ little-back n x h
+
+-- ---- bytes turned by their number: the number of their little-endian reading, and the little-endian bytes of their number
+
+-- bytes that are read as little-endian and then turned are read in their order
+pub number-turned : (o : ByteOrder) (bs : List ℕ) (n : ℕ) → Bytes bs → length bs ≡ n → number o (littleNumeral n (littleNumber bs)) ≡ number o bs
+number-turned o bs n h e = subst (λ (k : ℕ). number o (littleNumeral k (littleNumber bs)) ≡ number o bs) e (ap (number o) (numeral-back bs h))
+
+-- a number that is turned and then written as little-endian is written in its order
+pub numeral-turned : (o : ByteOrder) (n x : ℕ) → littleNumeral n (number o (littleNumeral n x)) ≡ numeral o n x
+unfolding number numeral
+numeral-turned o n x =
+    let bs = inOrder o (littleNumeral n x) in
+    subst (λ (k : ℕ). littleNumeral k (littleNumber bs) ≡ bs) (length-in-order o (littleNumeral n x) ∙ length-little n x)
+    (numeral-back bs (bytes-in-order o (littleNumeral n x) (bytes-numeral n x)))
+
+-- the little order turns nothing
+pub number-little : (o : ByteOrder) (n x : ℕ) → eqb (o .0) 0 ≡ true → x < 256 ^ n → number o (littleNumeral n x) ≡ x
+unfolding number inOrder
+number-little o n x e h = rw e (little-back n x h)
+
+-- the big one turns the bytes round
+pub number-big : (o : ByteOrder) (bs : List ℕ) → eqb (o .0) 0 ≡ false → number o bs ≡ littleNumber (reverse bs)
+unfolding number inOrder
+number-big o bs e = rw e

@@ -1,10 +1,13 @@
 -- The memo's integers in bytes: the number that bytes stand for, the bytes of a number, and the signed reading of a word.
 use Prim.Native.Nat.{ℕ, zero, suc, _+_, _*_, _/_, _%_}
-use mathlib.Core.List.{List, [], _∷_}
+use mathlib.Core.Bool.{cond}
+use mathlib.Core.List.{List, [], _∷_, reverse}
+use lib.Dec.{eqb}
 use lib.IntN.{ℤ}
 use mir.Syntax.{Width, w32, w64}
 use mir.Val.{toZ, ofZ, bytes}
 use Rattle.image.specs.Image.{part}
+use Rattle.words.specs.declared.order.ByteOrder.{ByteOrder}
 
 -- Integer*4 is a word of the memo, 32 bits
 abbrev pub integer4 : Width
@@ -15,14 +18,26 @@ abbrev pub integer8 : Width
 integer8 = w64
 
 -- the number that bytes stand for, the least significant first
-unfoldable pub number : List ℕ → ℕ
-number [] = 0
-number (b ∷ bs) = b + 256 * number bs
+unfoldable pub littleNumber : List ℕ → ℕ
+littleNumber [] = 0
+littleNumber (b ∷ bs) = b + 256 * littleNumber bs
 
--- the n bytes that stand for a number
-unfoldable pub numeral : ℕ → ℕ → List ℕ
-numeral zero x = []
-numeral (suc n) x = x % 256 ∷ numeral n (x / 256)
+-- the n bytes that stand for a number, the least significant first
+unfoldable pub littleNumeral : ℕ → ℕ → List ℕ
+littleNumeral zero x = []
+littleNumeral (suc n) x = x % 256 ∷ littleNumeral n (x / 256)
+
+-- bytes with the least significant first, put in an order: the little one (0) leaves them, the big one turns them round; and back
+unfoldable pub inOrder : ByteOrder → List ℕ → List ℕ
+inOrder o bytes = cond (eqb (o .0) 0) bytes (reverse bytes)
+
+-- the number that bytes in an order stand for
+unfoldable pub number : ByteOrder → List ℕ → ℕ
+number o bytes = littleNumber (inOrder o bytes)
+
+-- the n bytes that stand for a number in an order
+unfoldable pub numeral : ByteOrder → ℕ → ℕ → List ℕ
+numeral o n x = inOrder o (littleNumeral n x)
 
 -- two's complement: bits below half the range are their own value, the others are their value less the range
 -- (signed-low and signed-high, in proofs/Signed.antt)
@@ -34,13 +49,13 @@ abbrev pub bitsOf : Width → ℤ → ℕ
 bitsOf w value = ofZ w value
 
 -- the integer of width w at offset at of an image: its bits
-unfoldable pub bitsAt : Width → List ℕ → ℕ → ℕ
-bitsAt w image at = number (part image at (bytes w))
+unfoldable pub bitsAt : ByteOrder → Width → List ℕ → ℕ → ℕ
+bitsAt o w image at = number o (part image at (bytes w))
 
 -- and its signed reading
-abbrev pub signedAt : Width → List ℕ → ℕ → ℤ
-signedAt w image at = signedOf w (bitsAt w image at)
+abbrev pub signedAt : ByteOrder → Width → List ℕ → ℕ → ℤ
+signedAt o w image at = signedOf w (bitsAt o w image at)
 
 -- the bytes of a signed value of width w
-abbrev pub signedNumeral : Width → ℤ → List ℕ
-signedNumeral w value = numeral (bytes w) (bitsOf w value)
+abbrev pub signedNumeral : ByteOrder → Width → ℤ → List ℕ
+signedNumeral o w value = numeral o (bytes w) (bitsOf w value)

@@ -1,15 +1,17 @@
 // Words of a file image: the memo's Integer*4 and Integer*8, read and written as bits and as signed
-// values.
+// values, in either order of their bytes.
 //
 // Offsets count bytes from 0. A reader says which number the bytes at an offset stand for, a writer
 // what the whole image holds at exit, a test what the signed value is. A caller shows that the word lies within the image.
 mod code;
+mod order;
 mod range;
 mod read;
 mod sign;
 mod write;
 
 pub use code::code_at;
+pub use order::ByteOrder;
 pub use range::at_least4;
 pub use range::at_least8;
 pub use range::within4;

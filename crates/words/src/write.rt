@@ -1,4 +1,7 @@
-// Writing a word at an offset.
+// Writing a word at an offset, in the order of its bytes.
+use super::order::ByteOrder;
+use super::order::turned4;
+use super::order::turned8;
 use super::sign::bits32;
 use super::sign::bits64;
 ghost use Prim.Native.Nat.{_+_, _≤_};
@@ -8,15 +11,16 @@ ghost use Rattle.image.specs.Image.{splice};
 ghost use Rattle.words.specs.Word.{numeral, integer4, integer8, signedNumeral};
 
 // Writes the Integer*4 with these bits at offset `at`.
-pub fn put_u32(image: &mut [u8], at: usize, bits: u32)
+pub fn put_u32(order: ByteOrder, image: &mut [u8], at: usize, bits: u32)
     requires { ⌜ at + 4 ≤ length (now image) ⌝ }
-    ensures { λ _. ⌜ Leaves (splice (now (image .entry)) at (numeral 4 bits)) (now (image .exit)) ⌝ }
+    ensures { λ _. ⌜ Leaves (splice (now (image .entry)) at (numeral order 4 bits)) (now (image .exit)) ⌝ }
 {
-    let second = bits / 256;
+    let first = turned4(order, bits);
+    let second = first / 256;
     let third = second / 256;
     let fourth = third / 256;
     let bytes = [
-        (bits % 256) as u8,
+        (first % 256) as u8,
         (second % 256) as u8,
         (third % 256) as u8,
         (fourth % 256) as u8,
@@ -25,11 +29,12 @@ pub fn put_u32(image: &mut [u8], at: usize, bits: u32)
 }
 
 // Writes the Integer*8 with these bits at offset `at`.
-pub fn put_u64(image: &mut [u8], at: usize, bits: u64)
+pub fn put_u64(order: ByteOrder, image: &mut [u8], at: usize, bits: u64)
     requires { ⌜ at + 8 ≤ length (now image) ⌝ }
-    ensures { λ _. ⌜ Leaves (splice (now (image .entry)) at (numeral 8 bits)) (now (image .exit)) ⌝ }
+    ensures { λ _. ⌜ Leaves (splice (now (image .entry)) at (numeral order 8 bits)) (now (image .exit)) ⌝ }
 {
-    let second = bits / 256;
+    let first = turned8(order, bits);
+    let second = first / 256;
     let third = second / 256;
     let fourth = third / 256;
     let fifth = fourth / 256;
@@ -37,7 +42,7 @@ pub fn put_u64(image: &mut [u8], at: usize, bits: u64)
     let seventh = sixth / 256;
     let eighth = seventh / 256;
     let bytes = [
-        (bits % 256) as u8,
+        (first % 256) as u8,
         (second % 256) as u8,
         (third % 256) as u8,
         (fourth % 256) as u8,
@@ -50,17 +55,17 @@ pub fn put_u64(image: &mut [u8], at: usize, bits: u64)
 }
 
 // Writes a value as the Integer*4 at offset `at`.
-pub fn put_i32(image: &mut [u8], at: usize, value: i32)
+pub fn put_i32(order: ByteOrder, image: &mut [u8], at: usize, value: i32)
     requires { ⌜ at + 4 ≤ length (now image) ⌝ }
-    ensures { λ _. ⌜ Leaves (splice (now (image .entry)) at (signedNumeral integer4 value)) (now (image .exit)) ⌝ }
+    ensures { λ _. ⌜ Leaves (splice (now (image .entry)) at (signedNumeral order integer4 value)) (now (image .exit)) ⌝ }
 {
-    put_u32(image, at, bits32(value))
+    put_u32(order, image, at, bits32(value))
 }
 
 // Writes a value as the Integer*8 at offset `at`.
-pub fn put_i64(image: &mut [u8], at: usize, value: i64)
+pub fn put_i64(order: ByteOrder, image: &mut [u8], at: usize, value: i64)
     requires { ⌜ at + 8 ≤ length (now image) ⌝ }
-    ensures { λ _. ⌜ Leaves (splice (now (image .entry)) at (signedNumeral integer8 value)) (now (image .exit)) ⌝ }
+    ensures { λ _. ⌜ Leaves (splice (now (image .entry)) at (signedNumeral order integer8 value)) (now (image .exit)) ⌝ }
 {
-    put_u64(image, at, bits64(value))
+    put_u64(order, image, at, bits64(value))
 }

@@ -9,10 +9,10 @@ use Rattle.descriptor.proofs.addresses.addresses_of.Statement.{statemen
 use Rattle.descriptor.proofs.addresses.addresses_of.Tie as tie
 
 abbrev Inv-loop : tie.InvT-loop
-Inv-loop file nex table₀ filled₀ table filled = Filling 16 nex (aexAt file) (record { 0 = 0 }) table filled
+Inv-loop order file nex table₀ filled₀ table filled = Filling 16 nex (aexAt file) (record { 0 = 0 }) table filled
 
 abbrev μ-loop : tie.MeasureT-loop
-μ-loop file nex table₀ filled₀ table filled = nex - filled
+μ-loop order file nex table₀ filled₀ table filled = nex - filled
 
 pub addresses-of-spec : {M : Type 1} → statement M
 unfolding addressesOf
@@ -24,7 +24,9 @@ addresses-of-spec =
     (λ c. filling-none)
     (λ c. omega arith)
     (λ c κs. omega arith)
-    (λ c κs. omega (arith, ap (λ (w : WordNumber). w .0) (c .aex-word .ensures)))
+    (λ c κs.
+    let word = ap (λ (w : WordNumber). w .0) (c .aex-word .ensures) in
+    (c .before .before .before .before .pre .0, omega arith, omega arith, omega arith))
     (λ c. omega arith)
     (λ c. omega arith)
     (λ c. omega arith)

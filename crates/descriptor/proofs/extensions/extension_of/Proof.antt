@@ -15,7 +15,7 @@ use Rattle.descriptor.proofs.extensions.extension_of.Tie as tie
 
 -- the numbers bound are the file's own, and within their limits
 known : (c : tie.After-case) → Settled (c .case .given .0 .0)
-known c = told _ _ _ (c .before .before .validate .ensures) (c .case .given .1) .admitted .settled
+known c = told _ _ _ (c .before .before .validate .ensures) (c .case .given .1) .admitted .admitted .settled
 
 -- the answer, by the case
 answer : (c : tie.After-case) → let a = c .before .before .before .before .args in

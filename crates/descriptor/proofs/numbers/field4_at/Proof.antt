@@ -6,4 +6,4 @@ use Rattle.descriptor.proofs.numbers.field4_at.Tie as tie
 
 pub field4-at-spec : {M : Type 1} → statement M
 unfolding field4
-field4-at-spec = tie.close (tie.spec (λ c κs. search needs) (λ c κs. search needs) (λ c. search needs) (λ c. rw (c .before .first-record-offset .ensures) at (c .u32-at .ensures)))
+field4-at-spec = tie.close (tie.spec (λ c κs. search needs) (λ c κs. search needs) (λ c. search needs) (λ c. rw (c .before .before .before .pre .0, c .before .first-record-offset .ensures) at (c .u32-at .ensures)))

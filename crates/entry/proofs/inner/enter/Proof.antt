@@ -5,9 +5,14 @@ use native.Mathlib.Omega.{arith}
 use borrow.Author.Tests.{le-leb, lt-leb, ne-eqb}
 use lib.ListN.{length}
 use mir.Facts.{toZ-ofZ}
+use Rattle.words.specs.declared.order.ByteOrder.{ByteOrder}
+use Rattle.words.specs.Word.{integer4, signedAt}
 use Rattle.geometry.specs.Units.{entriesBefore}
 use Rattle.descriptor.specs.Refusal.{refusalIn}
-use Rattle.pieces.specs.EntryDescriptor.{word4, versionOf, dataOf}
+use Rattle.layout.specs.EntryWords.{versionWord}
+use Rattle.layout.specs.FileCode.{byteOrderOf}
+use Rattle.pieces.specs.EntryDescriptor.{wordOffset, word4, versionOf, dataOf}
+use Rattle.pieces.proofs.Pieces.{described-in}
 use Rattle.entry.specs.Opening.{slotPositionOf, placeStored, startOf, numberRules, startRefusal, headRefusal, entryRefusal, enteredAt}
 use Rattle.entry.proofs.Entering.{Begins, Heads, free-within, slot-lent, start-passed, head-passed, entry-number, refused-start, refused-head, entry-content, entered-numbers, entered-refused}
 use borrow.Author.Needs.{needs, sfits-of}
@@ -61,14 +66,18 @@ none : (c : tie.Else3) → startRefusal (given c .args .d) (placed c .place-stor
 none c = sym (c .before .start-refusal .ensures) ∙ c .if3 .left
 
 begins : (c : tie.Else3) → Begins (given c .args .d) (placed c .place-stored .result)
-begins c = start-passed _ _ _ _ (given c .pre) (none c)
+begins c = start-passed _ _ _ _ (given c .pre .admitted) (none c)
 
 -- the rules up to 16 are passed
 head : (c : tie.After-head-refusal) → let b = c .before .before in let a = given b .args in c .head-refusal .result ≡ headRefusal (a .file .now) (a .d) (start b) (a .number)
 head c = rw (c .before .position .ensures) at (c .head-refusal .ensures)
 
 heads : (c : tie.Else4) → Heads (given (begun c) .args .file .now) (given (begun c) .args .d) (start (begun c))
-heads c = head-passed _ _ _ _ _ (given (begun c) .pre) (begins (begun c) .ends) (sym (head (c .before)) ∙ c .if4 .left)
+heads c = head-passed _ _ _ _ _ (given (begun c) .pre .admitted) (begins (begun c) .ends) (sym (head (c .before)) ∙ c .if4 .left)
+
+-- the order handed on is the file's
+order : (c : tie.Else4) → let a = given (begun c) .args in a .d .order ≡ byteOrderOf (a .file .now)
+order c = given (begun c) .pre .order
 
 within : (c : tie.Else4) → 4 * (c .before .before .position .result + 11) ≤ length (given (begun c) .args .file .now)
 within c = omega (arith, c .before .before .position .ensures, heads c .described .within)
@@ -85,7 +94,11 @@ whole c =
 
 version : (c : tie.After-i32-at) → let b = begun (headed (passed c)) in c .i32-at .result ≡ versionOf (given b .args .file .now) (start b)
 unfolding word4
-version c = rw (c .before .byte-offset .ensures, c .before .before .entry-position .ensures, headed (passed c) .before .before .position .ensures) at (c .i32-at .ensures)
+version c =
+    let h = headed (passed c) in
+    let a = given (begun h) .args in
+    rw (c .before .byte-offset .ensures, c .before .before .entry-position .ensures, h .before .before .position .ensures) at (c .i32-at .ensures)
+    ∙ ap (λ (o : ByteOrder). signedAt o integer4 (a .file .now) (wordOffset (start (begun h)) versionWord)) (order h)
 
 pub enter-spec : {M : Type 1} → statement M
 unfolding dataOf
@@ -105,29 +118,32 @@ enter-spec =
     (λ c κs.
     let s = begin (c .before) in
     let u = in-use (c .before) in
-    omega (arith, c .slot-position .ensures, s .pre .settled .lind-low, slot-lent (length (s .args .file .now)) (s .args .d) (s .args .addresses) (s .pre) (s .args .number) (u .0) (u .1)))
+    let slot = slot-lent (length (s .args .file .now)) (s .args .d) (s .args .addresses) (s .pre .admitted) (s .args .number) (u .0) (u .1) in
+    (s .pre .order, omega (arith, c .slot-position .ensures, s .pre .admitted .settled .lind-low)))
     (λ c κs. search needs)
     (λ c κs. search needs)
     (λ c.
     let t = c .before .before in
     c .refused3 .ensures ∙ sym (refused-start _ _ _ _ (numbered (asked (t .before))) (t .before .place-stored .result) (place (t .before)) _
     (sym (t .start-refusal .ensures)) (ne-eqb _ _ (c .before .if3 .taken))))
-    (λ c κs. omega (arith, begins c, given c .pre .settled .reclen-high))
-    (λ c κs. let p = given (c .before) .pre in (p .settled .reclen-high, p .free, rw (c .position .ensures) (begins (c .before) .ends), free-within _ _ _ p))
+    (λ c κs. omega (arith, begins c, given c .pre .admitted .settled .reclen-high))
+    (λ c κs.
+    let p = given (c .before) .pre in
+    (p .admitted .settled .reclen-high, p .admitted .free, rw (c .position .ensures) (begins (c .before) .ends), free-within _ _ _ (p .admitted), p .order))
     (λ c κs. search needs)
     (λ c.
     let h = c .before .before in
     let b = h .before .before in
     c .refused4 .ensures ∙ sym (refused-head _ _ _ _ (numbered (asked (placed b))) (placed b .place-stored .result) (place (placed b)) _
     (none b) (sym (head h)) (ne-eqb _ _ (c .before .if4 .taken))))
-    (λ c κs. omega (arith, within c))
-    (λ c κs. omega (arith, within (c .before)))
-    (λ c κs. omega (arith, within (c .before .before)))
-    (λ c κs. omega (arith, within (c .before .before .before)))
+    (λ c κs. let inside = within c in (order c, omega arith, omega arith))
+    (λ c κs. let inside = within (c .before) in (order (c .before), omega arith, omega arith))
+    (λ c κs. let inside = within (c .before .before) in (order (c .before .before), omega arith, omega arith))
+    (λ c κs. let inside = within (c .before .before .before) in (order (c .before .before .before), omega arith, omega arith))
     (λ c κs.
     let w = c .before .before .before in
     let h = heads (w .before) in
-    rw (c .before .before .word8-at .ensures, w .word4-at .ensures, w .before .before .before .position .ensures) (h .described, h .nword-small))
+    rw (c .before .before .word8-at .ensures, w .word4-at .ensures, w .before .before .before .position .ensures) (described-in (order (w .before)) (h .described), h .nword-small))
     (λ c κs. search needs)
     (λ c. let k = c .before .before in c .refused5 .ensures ∙ sym (entered-refused _ _ _ _ _ (whole k) (ne-eqb _ _ (c .before .if5 .taken))))
     (λ c κs. let h = headed (c .before) in omega (arith, within h, heads h .described .lent))

@@ -17,10 +17,10 @@ here s = placeStored (s .args .file .now) (slotPositionOf (s .args .d) (s .args 
 
 -- what is known of the entry
 known : (s : tie.Start) → Opens (s .args .file .now) (s .args .d) (s .args .number) (here s)
-known s = entry-opens (s .args .file .now) (s .args .d) (s .args .addresses) (s .args .number) (s .pre .0) (s .pre .1)
+known s = entry-opens (s .args .file .now) (s .args .d) (s .args .addresses) (s .args .number) (s .pre .0 .admitted) (s .pre .1)
 
 inside : (s : tie.Start) → 4 * freeOf (s .args .d) ≤ length (s .args .file .now)
-inside s = free-within (length (s .args .file .now)) (s .args .d) (s .args .addresses) (s .pre .0)
+inside s = free-within (length (s .args .file .now)) (s .args .d) (s .args .addresses) (s .pre .0 .admitted)
 
 -- the place read, the start and nword
 place : (c : tie.After-place-stored) → c .place-stored .result ≡ here (c .before .before .before)
@@ -36,12 +36,12 @@ pub extent-of-spec : {M : Type 1} → statement M
 extent-of-spec =
     tie.close
     (tie.spec
-    (λ c κs. let s = c .before in (s .pre .0, known s .number-low, known s .number-high))
+    (λ c κs. let s = c .before in (s .pre .0 .admitted, known s .number-low, known s .number-high))
     (λ c κs.
     let s = c .before .before in
-    let slot = slot-lent (length (s .args .file .now)) (s .args .d) (s .args .addresses) (s .pre .0) (s .args .number) (known s .number-low) (known s .number-high) in
-    omega (arith, c .slot-position .ensures, s .pre .0 .settled .lind-low))
-    (λ c κs. let s = c .before .before .before in rw (place c) (omega (arith, known s, s .pre .0 .settled .reclen-high)))
-    (λ c κs. let s = c .before .before .before .before in omega (arith, start c, known s .nword-low, known s .ends, inside s))
-    (λ c. let s = c .before .before .before .before .before in omega (arith, start (c .before), nword c, known s .ends, inside s, s .pre .0 .lent .high))
+    let slot = slot-lent (length (s .args .file .now)) (s .args .d) (s .args .addresses) (s .pre .0 .admitted) (s .args .number) (known s .number-low) (known s .number-high) in
+    (s .pre .0 .order, omega (arith, c .slot-position .ensures, s .pre .0 .admitted .settled .lind-low)))
+    (λ c κs. let s = c .before .before .before in rw (place c) (omega (arith, known s, s .pre .0 .admitted .settled .reclen-high)))
+    (λ c κs. let s = c .before .before .before .before in (s .pre .0 .order, omega arith, omega (arith, start c, known s .nword-low, known s .ends, inside s)))
+    (λ c. let s = c .before .before .before .before .before in omega (arith, start (c .before), nword c, known s .ends, inside s, s .pre .0 .admitted .lent .high))
     (λ c. rw (start (c .before), nword c, entered-numbers _ _ _ _ (c .before .before .before .before .before .pre .1))))

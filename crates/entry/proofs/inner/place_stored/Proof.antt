@@ -15,4 +15,7 @@ place-stored-spec =
     (λ c κs. search needs)
     (λ c κs. search needs)
     (λ c. search needs)
-    (λ c. rw (rw (c .before .before .before .byte-offset .ensures) at (c .before .before .u64-at .ensures), rw (c .before .byte-offset2 .ensures) at (c .u32-at .ensures))))
+    (λ c.
+    let first = c .before .before in
+    let order = first .before .before .before .pre .0 in
+    rw (rw (order, first .before .byte-offset .ensures) at (first .u64-at .ensures), rw (order, c .before .byte-offset2 .ensures) at (c .u32-at .ensures))))

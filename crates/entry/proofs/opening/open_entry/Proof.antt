@@ -2,19 +2,19 @@
 use mathlib.Core.Path.{_≡_, sym, ap, _∙_}
 use borrow.Author.Tests.{eq-eqb, ne-eqb}
 use borrow.Author.Needs.{needs, sfits-of}
-use lib.ListN.{length}
 use mir.Syntax.{w32}
 use mir.Val.{toZ, ofZ}
 use mir.Facts.{toZ-ofZ}
-use Rattle.descriptor.specs.Bounds.{Admitted}
+use Rattle.descriptor.specs.Bounds.{AdmittedIn}
 use Rattle.descriptor.proofs.Answered.{told, refusal-told}
+use Rattle.pieces.proofs.Pieces.{described-in}
 use Rattle.entry.specs.Answers.{openedAs, openOf}
 use Rattle.entry.proofs.Opened.{known, open-refused, open-numbers}
 use Rattle.entry.proofs.opening.open_entry.Statement.{statement}
 use Rattle.entry.proofs.opening.open_entry.Tie as tie
 
 -- the numbers bound are the file's own, and admitted
-admitted : (c : tie.After-addresses) → let v = c .before .before .before .before in Admitted (length (v .before .before .args .file .now)) (c .before .before .case .given .0 .0) (v .validate .result .addresses)
+admitted : (c : tie.After-addresses) → let v = c .before .before .before .before in AdmittedIn (v .before .before .args .file .now) (c .before .before .case .given .0 .0) (v .validate .result .addresses)
 admitted c = told _ _ _ (c .before .before .before .before .validate .ensures) (c .before .before .case .given .1) .admitted
 
 -- the answer is made of what was entered
@@ -45,7 +45,8 @@ open-entry-spec =
     (λ c κs.
     let e = c .before .before .before .before in
     let x = e .before .before in
-    known _ _ _ _ (x .enter .result) (admitted (x .before)) (x .enter .ensures) (e .if1 .left) .described)
+    let a = admitted (x .before) in
+    described-in (a .order) (known _ _ _ _ (x .enter .result) (a .admitted) (x .enter .ensures) (e .if1 .left) .described))
     (λ c.
     let s = c .before .before .signed64 in
     let e = c .before .before .before .before .before in

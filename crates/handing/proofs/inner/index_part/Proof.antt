@@ -13,15 +13,15 @@ use Rattle.handing.proofs.inner.index_part.Tie as tie
 
 -- the entry opened
 opened : (c : tie.Else1) → let a = c .before .before .before .before .args in Known (a .file .now) (a .d) (a .number) (c .before .before .enter .result)
-opened c = known _ _ _ _ _ (c .before .before .before .before .pre) (c .before .before .enter .ensures) (c .if1 .left)
+opened c = known _ _ _ _ _ (c .before .before .before .before .pre .admitted) (c .before .before .enter .ensures) (c .if1 .left)
 
 -- and its slot ends within the file
 ends : (c : tie.After-slot-position) → c .slot-position .result + c .before .before .before .before .before .args .d .lind ≤ 2 ^ 28
 ends c =
     let s = c .before .before .before .before .before in
     let o = opened (c .before) in
-    let inside = slot-lent (length (s .args .file .now)) (s .args .d) (s .args .addresses) (s .pre) (s .args .number) (o .number-low) (o .number-high) in
-    omega (arith, c .slot-position .ensures, s .pre .lent .high)
+    let inside = slot-lent (length (s .args .file .now)) (s .args .d) (s .args .addresses) (s .pre .admitted) (s .args .number) (o .number-low) (o .number-high) in
+    omega (arith, c .slot-position .ensures, s .pre .admitted .lent .high)
 
 pub index-part-spec : {M : Type 1} → statement M
 unfolding indexPart
@@ -31,7 +31,7 @@ index-part-spec =
     (λ c κs. search needs)
     (λ c κs. search needs)
     (λ c. let x = c .before .before .before .enter in c .no-part .ensures ∙ rw (← (x .ensures), ne-eqb (x .result .refusal) 0 (c .before .if1 .taken)))
-    (λ c κs. (c .before .before .before .before .pre, opened c .number-low, opened c .number-high))
+    (λ c κs. (c .before .before .before .before .pre .admitted, opened c .number-low, opened c .number-high))
     (λ c. omega (arith, ends c))
     (λ c. search needs)
     (λ c κs. omega (arith, ends (c .before)))

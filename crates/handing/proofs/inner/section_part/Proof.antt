@@ -3,8 +3,9 @@ use native.Mathlib.Omega.{arith}
 use mathlib.Core.Path.{_≡_, _∙_}
 use borrow.Author.Tests.{eq-eqb, ne-eqb, lt-ltb, le-ltb}
 use mir.Facts.{toZ-ofZ}
+use Rattle.layout.specs.FileCode.{byteOrderOf}
 use Rattle.pieces.specs.Tables.{sectionNamed}
-use Rattle.pieces.proofs.Pieces.{Placed, section-placed}
+use Rattle.pieces.proofs.Pieces.{Placed, section-placed, described-in}
 use Rattle.entry.proofs.Opened.{Known, known}
 use Rattle.handing.specs.Parts.{sectionPart}
 use borrow.Author.Needs.{needs}
@@ -13,7 +14,11 @@ use Rattle.handing.proofs.inner.section_part.Tie as tie
 
 -- the entry opened
 opened : (c : tie.Else1) → let a = c .before .before .before .before .args in Known (a .file .now) (a .d) (a .number) (c .before .before .enter .result)
-opened c = known _ _ _ _ _ (c .before .before .before .before .pre) (c .before .before .enter .ensures) (c .if1 .left)
+opened c = known _ _ _ _ _ (c .before .before .before .before .pre .admitted) (c .before .before .enter .ensures) (c .if1 .left)
+
+-- the order handed on is the file's
+order : (c : tie.Else1) → let a = c .before .before .before .before .args in a .d .order ≡ byteOrderOf (a .file .now)
+order c = c .before .before .before .before .pre .order
 
 -- which section has the identifier
 found : (c : tie.After-section-named) → let a = c .before .before .before .before .before .args in
@@ -33,14 +38,14 @@ section-part-spec =
     (λ c κs. search needs)
     (λ c κs. search needs)
     (λ c. let x = c .before .before .before .enter in c .no-part .ensures ∙ rw (← (x .ensures), ne-eqb (x .result .refusal) 0 (c .before .if1 .taken)))
-    (λ c κs. opened c .described)
+    (λ c κs. described-in (order c) (opened c .described))
     (λ c κs. search needs)
     (λ c.
     let n = c .before .before .before in
     let x = n .before .before .before .enter in
     c .no-part2 .ensures
     ∙ rw (← (x .ensures), eq-eqb (x .result .refusal) 0 (n .before .if1 .left), ← (found n), le-ltb (n .section-named .result) (x .result .nsec) (c .before .if2 .taken)))
-    (λ c κs. (opened (c .before .before .before) .described, c .if2 .left))
+    (λ c κs. let e = c .before .before .before in (described-in (order e) (opened e .described), c .if2 .left))
     (λ c κs. omega (arith, opened (c .before .before .before .before), placed c))
     (λ c κs. omega (arith, c .entry-position .ensures, opened (c .before .before .before .before .before), placed (c .before)))
     (λ c.

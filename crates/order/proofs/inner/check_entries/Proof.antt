@@ -77,14 +77,14 @@ number c = record { 0 = c .loop .passed + 1 }
 shown : (c : tie.Else1 Inv-loop μ-loop) → let a = begin (turn c) .args in Known (a .file .now) (a .d) (number (turn c)) (c .before .before .enter .result)
 shown c =
     let s = begin (turn c) in
-    known (s .args .file .now) (s .args .d) (s .args .addresses) (number (turn c)) (c .before .before .enter .result) (s .pre) (c .before .before .enter .ensures) (c .if1 .left)
+    known (s .args .file .now) (s .args .d) (s .args .addresses) (number (turn c)) (c .before .before .enter .result) (s .pre .admitted) (c .before .before .enter .ensures) (c .if1 .left)
 
 -- the extensions in use reach it
 reached : (c : tie.Else1 Inv-loop μ-loop) → let d = begin (turn c) .args .d in number (turn c) .0 ≤ totalOf (growthIn d) (d .nex)
 reached c =
     let s = begin (turn c) in
     let d = s .args .d in
-    omega (arith, shown c .number-high, fit-reach (growthIn d) (entriesBefore (d .xnext)) (d .nex) (s .pre .fit))
+    omega (arith, shown c .number-high, fit-reach (growthIn d) (entriesBefore (d .xnext)) (d .nex) (s .pre .admitted .fit))
 
 -- the walk comes to its extension
 come : (c : tie.After-walk-to-entry Inv-loop μ-loop) → let d = begin (turn (c .before)) .args .d in
@@ -103,7 +103,7 @@ stands : (c : tie.After-slot-in Inv-loop μ-loop) → let a = begin (turn (walke
 stands c =
     let s = begin (turn (walked c)) in
     let k = shown (walked c) in
-    (s .pre, slot-ordered _ _ _ (s .pre) (number (turn (walked c))) (k .number-low) (k .number-high) (slot c) (come (c .before)))
+    (s .pre .admitted, slot-ordered _ _ _ (s .pre .admitted) (number (turn (walked c))) (k .number-low) (k .number-high) (slot c) (come (c .before)))
 
 returns : tie.Need-returns Inv-loop μ-loop
 returns c =
@@ -120,8 +120,8 @@ walk-to-entry-requires c κs =
     record {
       stands = l .loop .inv .1;
       counted = l .loop .inv .2;
-      few = s .pre .settled .nex-high;
-      growing = rw new (growing d (d .nex) (s .pre .settled) (omega arith));
+      few = s .pre .admitted .settled .nex-high;
+      growing = rw new (growing d (d .nex) (s .pre .admitted .settled) (omega arith));
       behind = omega (arith, l .loop .inv .3);
       reached = rw new (reached c);
     }
@@ -130,8 +130,8 @@ slot-in-requires : tie.Need-slot-in-requires Inv-loop μ-loop
 slot-in-requires c κs =
     let s = begin (turn (c .before)) in
     let d = s .args .d in
-    let near = walk-near (growthIn d) (d .nex) (d .lind) (number (turn (c .before))) (come c) (s .pre .settled .within) (shown (c .before) .number-low) (reached (c .before)) in
-    (near .0, near .1, s .pre .settled .lind-high)
+    let near = walk-near (growthIn d) (d .nex) (d .lind) (number (turn (c .before))) (come c) (s .pre .admitted .settled .within) (shown (c .before) .number-low) (reached (c .before)) in
+    (near .0, near .1, s .pre .admitted .settled .lind-high)
 
 returns-2 : tie.Need-returns-2 Inv-loop μ-loop
 returns-2 c =
@@ -142,7 +142,7 @@ returns-2 c =
 add-end : tie.Need-add-end Inv-loop μ-loop
 add-end c =
     let o = opened (c .before .before) in
-    omega (arith, shown o .ends, begin (turn o) .pre .lent .high)
+    omega (arith, shown o .ends, begin (turn o) .pre .admitted .lent .high)
 
 returns-3 : tie.Need-returns-3 Inv-loop μ-loop
 returns-3 c =
@@ -157,7 +157,7 @@ loop-again c =
     let o = opened t in
     let at = walk-stands _ (t .before .before .walk-to-entry .ensures) in
     let d = begin (turn o) .args .d in
-    let near = walk-near (growthIn d) (d .nex) (d .lind) (number (turn o)) (come (t .before .before)) (begin (turn o) .pre .settled .within) (shown o .number-low) (reached o) in
+    let near = walk-near (growthIn d) (d .nex) (d .lind) (number (turn o)) (come (t .before .before)) (begin (turn o) .pre .admitted .settled .within) (shown o .number-low) (reached o) in
     let behind = passes _ _ _ (turn o .loop .inv .0) (omega arith) (o .before .before .enter .result) (o .before .before .enter .ensures)
     (t .before .slot-in .result) (slot (t .before)) (o .if1 .left) (t .starts-in-order .ensures) (started (c .before) .if2 .left) (c .before .ends-in-order .ensures) (c .if3 .left) in
     (behind, at .1, near .2, omega (arith, near .0))
@@ -170,7 +170,7 @@ check-entries-spec =
     μ-loop
     (λ c κs. search needs)
     (λ c κs. search needs)
-    (λ c κs. rw (c .before .new .ensures) (c .before .before .before .pre .settled .lex1-high))
+    (λ c κs. rw (c .before .new .ensures) (c .before .before .before .pre .admitted .settled .lex1-high))
     (λ c.
     let at = walk-stands _ (c .walk-begun .ensures) in
     let none = ap (λ (w : Walk). w .before) (c .walk-begun .ensures) ∙ total-none _ in

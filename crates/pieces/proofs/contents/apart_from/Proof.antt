@@ -9,10 +9,10 @@ use Rattle.pieces.proofs.contents.apart_from.Statement.{statement}
 use Rattle.pieces.proofs.contents.apart_from.Tie as tie
 
 abbrev Inv-loop : tie.InvT-loop
-Inv-loop file start nsec nword piece count passed₀ passed = Passing (apartFrom file start nsec piece) count passed
+Inv-loop order file start nsec nword piece count passed₀ passed = Passing (apartFrom file start nsec piece) count passed
 
 abbrev μ-loop : tie.MeasureT-loop
-μ-loop file start nsec nword piece count passed₀ passed = count - passed
+μ-loop order file start nsec nword piece count passed₀ passed = count - passed
 
 pub apart-from-spec : {M : Type 1} → statement M
 apart-from-spec =

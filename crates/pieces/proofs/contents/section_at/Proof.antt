@@ -9,4 +9,4 @@ pub section-at-spec : {M : Type 1} → statement M
 unfolding sectionOf
 section-at-spec =
     tie.close
-    (tie.spec (λ c κs. search needs) (λ c κs. rw (c .address-word .ensures) (omega arith)) (λ c κs. search needs) (λ c κs. rw (c .length-word .ensures) (omega arith)) (λ c. cc))
+    (tie.spec (λ c κs. search needs) (λ c κs. let e = c .address-word .ensures in (c .before .before .pre .0 .coded, rw e (omega arith), rw e (omega arith))) (λ c κs. search needs) (λ c κs. let e = c .length-word .ensures in (c .before .before .before .before .pre .0 .coded, rw e (omega arith), rw e (omega arith))) (λ c. cc))

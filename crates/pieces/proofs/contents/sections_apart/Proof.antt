@@ -9,10 +9,10 @@ use Rattle.pieces.proofs.contents.sections_apart.Statement.{statement}
 use Rattle.pieces.proofs.contents.sections_apart.Tie as tie
 
 abbrev Inv-loop : tie.InvT-loop
-Inv-loop file start nsec nword passed₀ passed = Passing (sectionsApart file start nsec) nsec passed
+Inv-loop order file start nsec nword passed₀ passed = Passing (sectionsApart file start nsec) nsec passed
 
 abbrev μ-loop : tie.MeasureT-loop
-μ-loop file start nsec nword passed₀ passed = nsec - passed
+μ-loop order file start nsec nword passed₀ passed = nsec - passed
 
 pub sections-apart-spec : {M : Type 1} → statement M
 sections-apart-spec =

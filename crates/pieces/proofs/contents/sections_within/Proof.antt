@@ -15,10 +15,10 @@ use Rattle.pieces.proofs.contents.sections_within.Statement.{statement}
 use Rattle.pieces.proofs.contents.sections_within.Tie as tie
 
 abbrev Inv-loop : tie.InvT-loop
-Inv-loop file start nsec nword passed₀ passed = Passing (sectionsWithin file start nsec nword) nsec passed
+Inv-loop order file start nsec nword passed₀ passed = Passing (sectionsWithin file start nsec nword) nsec passed
 
 abbrev μ-loop : tie.MeasureT-loop
-μ-loop file start nsec nword passed₀ passed = nsec - passed
+μ-loop order file start nsec nword passed₀ passed = nsec - passed
 
 -- what the first test leaves
 some : (c : tie.Else1 Inv-loop μ-loop) → atLeast 1 (signedOf integer8 (c .before .before .section-at .result .words)) ≡ true

@@ -14,12 +14,12 @@ use Rattle.pieces.proofs.tables.section_named.Statement.{statement}
 use Rattle.pieces.proofs.tables.section_named.Tie as tie
 
 abbrev Inv-loop : tie.InvT-loop
-Inv-loop file start nsec identifier passed₀ passed =
+Inv-loop order file start nsec identifier passed₀ passed =
     let asked = signedOf integer4 identifier in
     (passed ≤ nsec) × (sectionNamed file start asked passed (nsec - passed) ≡ sectionNamed file start asked 0 nsec)
 
 abbrev μ-loop : tie.MeasureT-loop
-μ-loop file start nsec identifier passed₀ passed = nsec - passed
+μ-loop order file start nsec identifier passed₀ passed = nsec - passed
 
 -- one section more is left
 left : (c : tie.After-identifier-at Inv-loop μ-loop) → let s = c .before .before in let nsec = s .before .before .args .nsec in nsec - s .loop .passed ≡ suc (nsec - (s .loop .passed + 1))

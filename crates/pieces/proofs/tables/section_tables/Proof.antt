@@ -11,13 +11,13 @@ use Rattle.pieces.proofs.tables.section_tables.Statement.{statement}
 use Rattle.pieces.proofs.tables.section_tables.Tie as tie
 
 abbrev Inv-loop : tie.InvT-loop
-Inv-loop file start nsec identifiers₀ lengths₀ addresses₀ filled₀ identifiers lengths addresses filled =
+Inv-loop order file start nsec identifiers₀ lengths₀ addresses₀ filled₀ identifiers lengths addresses filled =
     Filling 64 nsec (identifierAt file start) (pos 0) identifiers filled
     × Filling 64 nsec (λ i. sectionOf file start nsec i .words) 0 lengths filled
     × Filling 64 nsec (λ i. sectionOf file start nsec i .address) (record { 0 = 0 }) addresses filled
 
 abbrev μ-loop : tie.MeasureT-loop
-μ-loop file start nsec identifiers₀ lengths₀ addresses₀ filled₀ identifiers lengths addresses filled = nsec - filled
+μ-loop order file start nsec identifiers₀ lengths₀ addresses₀ filled₀ identifiers lengths addresses filled = nsec - filled
 
 pub section-tables-spec : {M : Type 1} → statement M
 unfolding sectionsOf sectionIdentifiers sectionLengths sectionAddresses

@@ -1,15 +1,17 @@
--- `words::read::u64_at` meets its contract: an Integer*8 is two words. Assumes nothing.
-use native.Mathlib.Omega.{arith}
-use Rattle.words.proofs.Access.{bits-halves}
+-- `words::read::u64_at` meets its contract: the little-endian reading, turned. Assumes nothing.
+use mathlib.Core.Path.{_∙_}
+use mir.Syntax.{w64}
 use borrow.Author.Needs.{needs}
+use Rattle.words.proofs.Access.{bits-turned}
 use Rattle.words.proofs.read.u64_at.Statement.{statement}
 use Rattle.words.proofs.read.u64_at.Tie as tie
 
 returns : tie.Need-returns
 returns c =
-    let start = c .before .before .before in
-    rw (bits-halves (start .args .image .now) (start .args .at) (start .pre)) (omega arith)
+    let known = c .before .before in
+    let s = known .before in
+    rw (c .before .little8 .ensures) at (c .turned8 .ensures)
+    ∙ bits-turned (s .args .order) w64 (s .args .image .now) (s .args .at) (λ i. known .shared-slice-known .given i .fits) (s .pre)
 
 pub u64-at-spec : {M : Type 1} → statement M
-u64-at-spec =
-    tie.close (tie.spec (λ c κs. search needs) (λ c. search needs) (λ c. search needs) (λ c κs. search needs) (λ c. search needs) (λ c. search needs) (λ c. search needs) returns)
+u64-at-spec = tie.close (tie.spec (λ c κs. search needs) (λ c κs. search needs) returns)

@@ -34,8 +34,11 @@ new-spec =
     (λ c. search needs)
     (λ c κs. search needs)
     (λ c. search needs)
+    (λ c κs. search needs)
+    (λ c. search needs)
     (λ c.
-    let six = c .before .before in
+    let seven = c .before .before in
+    let six = seven .before .before in
     let five = six .before .before in
     let four = five .before .before in
     let three = four .before .before in
@@ -43,5 +46,5 @@ new-spec =
     let one = two .before .before in
     let told = one .before .struct-told .given in
     let s = one .before .before .args .settings in
-    rw (one .bits32 .ensures, two .bits322 .ensures, three .bits323 .ensures, four .bits324 .ensures, five .bits325 .ensures, six .bits326 .ensures, c .bits327 .ensures)
-    (rw (back (s .reclen) (told .0 .1), back (s .kind) (told .1 .0 .1), back (s .vind) (told .1 .1 .0 .1), back (s .lind) (told .1 .1 .1 .0 .1), back (s .flags) (told .1 .1 .1 .1 .0 .1), back (s .lex1) (told .1 .1 .1 .1 .1 .0 .1), back (s .gex) (told .1 .1 .1 .1 .1 .1 .0 .1)))))
+    rw (one .bits32 .ensures, two .bits322 .ensures, three .bits323 .ensures, four .bits324 .ensures, five .bits325 .ensures, six .bits326 .ensures, seven .bits327 .ensures, c .bits328 .ensures)
+    (rw (back (s .order) (told .0 .1), back (s .reclen) (told .1 .0 .1), back (s .kind) (told .1 .1 .0 .1), back (s .vind) (told .1 .1 .1 .0 .1), back (s .lind) (told .1 .1 .1 .1 .0 .1), back (s .flags) (told .1 .1 .1 .1 .1 .0 .1), back (s .lex1) (told .1 .1 .1 .1 .1 .1 .0 .1), back (s .gex) (told .1 .1 .1 .1 .1 .1 .1 .0 .1)))))

@@ -1,0 +1,2 @@
+-- The laws of `layout` that later layers cite.
+pub mod FileCodes
