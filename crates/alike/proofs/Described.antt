@@ -19,6 +19,7 @@ use Rattle.geometry.specs.declared.units.RecordNumber.{RecordNumber}
 use Rattle.geometry.specs.declared.units.EntryNumber.{EntryNumber}
 use Rattle.geometry.specs.declared.units.Place.{Place}
 use Rattle.geometry.specs.Units.{positionOf, entriesBefore}
+use Rattle.layout.specs.FileCode.{byteOrderOf}
 use Rattle.layout.specs.EntryWords.{versionWord, nsecWord, nwordWord, xnumWord, descriptorWords}
 use Rattle.descriptor.specs.declared.numbers.DescriptorNumbers.{DescriptorNumbers}
 use Rattle.descriptor.specs.Refusal.{refusalIn}
@@ -33,10 +34,11 @@ use Rattle.entry.proofs.Entering.{Opens, entry-opens, entered-numbers, contents
 use Rattle.handing.specs.Parts.{indexPart, sectionPart, dataPart}
 use Rattle.alike.proofs.EntryFields.{bytes-same, word4-same, word8-same, code-same, data-same, section-same, content-same, tables-same, named-same}
 
--- an entry that opens in a file, and another file that has its index and its descriptor where they were, and as many words and entries or more
+-- an entry that opens in a file, and another file of the same order that has its index and its descriptor where they were, and as many words and entries or more
 pub record Describes (f g : List ℕ) (d d′ : DescriptorNumbers) (addresses addresses′ : List RecordNumber) (e : EntryNumber) : Type 0 where
   pub admitted : Admitted (length f) d addresses
   pub opens : entryRefusal f d addresses e ≡ 0
+  pub order : byteOrderOf g ≡ byteOrderOf f
   pub reclen : d′ .reclen ≡ d .reclen
   pub lind : d′ .lind ≡ d .lind
   pub entries : entriesBefore (d .xnext) ≤ entriesBefore (d′ .xnext)
@@ -74,21 +76,21 @@ module _ (f g : List ℕ) (d d′ : DescriptorNumbers) (addresses addresses′ :
   place-there =
       let slot = slotPositionOf d addresses e in
       let within = bytes-same g f slot (d .lind) (t .index) in
-      let first = bits-alike integer8 g f (4 * slot) (4 * slot) (within (4 * slot) 8 (omega arith) (omega arith)) in
-      let second = bits-alike integer4 g f (4 * (slot + 2)) (4 * (slot + 2)) (within (4 * (slot + 2)) 4 (omega arith) (omega arith)) in
+      let first = bits-alike integer8 g f (4 * slot) (4 * slot) (t .order) (within (4 * slot) 8 (omega arith) (omega arith)) in
+      let second = bits-alike integer4 g f (4 * (slot + 2)) (4 * (slot + 2)) (t .order) (within (4 * (slot + 2)) 4 (omega arith) (omega arith)) in
       rw (t .slot, first, second)
 
   start-there : startOf d′ place ≡ start
   start-there = ap (λ (n : ℕ). positionOf n (place .«record») (place .word)) (t .reclen)
 
   nsec-there : nsecOf g start ≡ nsec
-  nsec-there = word4-same g f start words entry-bytes nsecWord (omega arith) (omega arith)
+  nsec-there = word4-same g f (t .order) start words entry-bytes nsecWord (omega arith) (omega arith)
 
   nword-there : nwordOf g start ≡ nword
-  nword-there = word8-same g f start words entry-bytes nwordWord (omega arith) (omega arith)
+  nword-there = word8-same g f (t .order) start words entry-bytes nwordWord (omega arith) (omega arith)
 
   data-there : dataOf g start ≡ dataOf f start
-  data-there = data-same g f start words entry-bytes (omega arith)
+  data-there = data-same g f (t .order) start words entry-bytes (omega arith)
 
   -- the entry opens there too: each rule holds as it does here
   pub opens-there : entryRefusal g d′ addresses′ e ≡ 0
@@ -101,9 +103,9 @@ module _ (f g : List ℕ) (d d′ : DescriptorNumbers) (addresses addresses′ :
       let word : within 1 (d′ .reclen) (signedOf w32 (place .word .0)) ≡ true = rw (t .reclen) (begin .0 .1 .0) in
       let described = le-leb (start + 11) (freeOf d′) (omega (arith, t .free, opened .nword-low, opened .ends)) in
       let ends = le-leb (start + nword) (freeOf d′) (omega (arith, t .free, opened .ends)) in
-      let code = code-same g f start words entry-bytes (omega arith) in
-      let xnum = word8-same g f start words entry-bytes xnumWord (omega arith) (omega arith) in
-      let content = content-same g f start words entry-bytes nsec (omega arith) nword (dataOf f start) in
+      let code = code-same g f (t .order) start words entry-bytes (omega arith) in
+      let xnum = word8-same g f (t .order) start words entry-bytes xnumWord (omega arith) (omega arith) in
+      let content = content-same g f (t .order) start words entry-bytes nsec (omega arith) nword (dataOf f start) in
       rw (place-there, start-there, code, nsec-there, nword-there, xnum, data-there)
       (rw (number .0 .0, more, begin .0 .0, word, described, head .0 .0, head .0 .1 .0, head .0 .1 .1 .0, ends, head .0 .1 .1 .1 .1 .0)
       (ap refusalIn content ∙ refusal-none (contents f d place) (head .1)))
@@ -111,7 +113,7 @@ module _ (f g : List ℕ) (d d′ : DescriptorNumbers) (addresses addresses′ :
   -- with the same numbers
   pub entered-there : enteredOf g d′ addresses′ e ≡ enteredOf f d addresses e
   entered-there =
-      let version = ap (signedOf w32) (word4-same g f start words entry-bytes versionWord (omega arith) (omega arith)) in
+      let version = ap (signedOf w32) (word4-same g f (t .order) start words entry-bytes versionWord (omega arith) (omega arith)) in
       entered-numbers g d′ addresses′ e opens-there
       ∙ rw (place-there, start-there, version, nsec-there, nword-there, data-there) (sym (entered-numbers f d addresses e (t .opens)))
 
@@ -119,7 +121,7 @@ module _ (f g : List ℕ) (d d′ : DescriptorNumbers) (addresses addresses′ :
   pub open-there : openedAs g (enteredOf g d′ addresses′ e) ≡ openedAs f (enteredOf f d addresses e)
   unfolding openedAs
   open-there =
-      rw (entered-there, entered-numbers f d addresses e (t .opens), tables-same g f start words entry-bytes nsec (omega arith))
+      rw (entered-there, entered-numbers f d addresses e (t .opens), tables-same g f (t .order) start words entry-bytes nsec (omega arith))
 
   -- and the places of its parts
   pub index-place : indexPart g d′ addresses′ e ≡ indexPart f d addresses e
@@ -131,10 +133,10 @@ module _ (f g : List ℕ) (d d′ : DescriptorNumbers) (addresses addresses′ :
   unfolding sectionPart
   section-place identifier =
       let i = sectionNamed f start identifier 0 nsec in
-      rw (entered-there, entered-numbers f d addresses e (t .opens), named-same g f start words entry-bytes nsec (omega arith) identifier 0 nsec (omega arith))
+      rw (entered-there, entered-numbers f d addresses e (t .opens), named-same g f (t .order) start words entry-bytes nsec (omega arith) identifier 0 nsec (omega arith))
       (elim (dichotomy (ltb i nsec)) [
         | inl q ↦ rw q
-        | inr q ↦ rw (q, section-same g f start words entry-bytes nsec (omega arith) i (ltb-true i nsec q))
+        | inr q ↦ rw (q, section-same g f (t .order) start words entry-bytes nsec (omega arith) i (ltb-true i nsec q))
       ])
 
   -- of its data

@@ -1,4 +1,4 @@
--- Two files that hold the same bytes of an entry have the same fields there: its numbers, its tables, its rules. Assumes nothing.
+-- Two files of one order that hold the same bytes of an entry have the same fields there: its numbers, its tables, its rules. Assumes nothing.
 use Prim.Native.Nat.{ℕ, zero, suc, _+_, _*_, _-_, _≤_, _<_}
 use mathlib.Core.Path.{_≡_, refl, sym, ap, _∙_}
 use mathlib.Core.List.{List}
@@ -11,6 +11,7 @@ use Rattle.words.specs.Word.{integer4, integer8, signedOf}
 use Rattle.words.proofs.Access.{bits-alike}
 use Rattle.words.proofs.Table.{places-same}
 use Rattle.geometry.specs.declared.units.EntryAddress.{EntryAddress}
+use Rattle.layout.specs.FileCode.{byteOrderOf}
 use Rattle.layout.specs.EntryWords.{adataWord, ldataWord, identifierWord, lengthWord, addressWord, descriptorWords}
 use Rattle.pieces.specs.declared.contents.Piece.{Piece}
 use Rattle.pieces.specs.EntryDescriptor.{wordOffset, word4, word8, entryCodeOf, identifierAt, sectionOf, dataOf}
@@ -26,20 +27,24 @@ module _ (f g : List ℕ) (start words : ℕ) (same : part f (4 * start) (4 * wo
       ∙ ap (λ (xs : List ℕ). part xs (at - 4 * start) n) same
       ∙ part-part g (4 * start) (4 * words) (at - 4 * start) n at (omega arith) (omega arith)
 
+module _ (f g : List ℕ) (order : byteOrderOf f ≡ byteOrderOf g) (start words : ℕ) (same : part f (4 * start) (4 * words) ≡ part g (4 * start) (4 * words)) where
+  abbrev within-entry : (at n : ℕ) → 4 * start ≤ at → at + n ≤ 4 * (start + words) → part f at n ≡ part g at n
+  within-entry = bytes-same f g start words same
+
   -- its words
   pub word4-same : (a : EntryAddress) → 1 ≤ a .0 → a .0 ≤ words → word4 f start a ≡ word4 g start a
   unfolding word4
-  word4-same a l h = bits-alike integer4 f g (wordOffset start a) (wordOffset start a) (bytes-same (wordOffset start a) 4 (omega arith) (omega arith))
+  word4-same a l h = bits-alike integer4 f g (wordOffset start a) (wordOffset start a) order (within-entry (wordOffset start a) 4 (omega arith) (omega arith))
 
   -- and so is an Integer*8
   pub word8-same : (a : EntryAddress) → 1 ≤ a .0 → a .0 + 1 ≤ words → word8 f start a ≡ word8 g start a
   unfolding word8
-  word8-same a l h = bits-alike integer8 f g (wordOffset start a) (wordOffset start a) (bytes-same (wordOffset start a) 8 (omega arith) (omega arith))
+  word8-same a l h = bits-alike integer8 f g (wordOffset start a) (wordOffset start a) order (within-entry (wordOffset start a) 8 (omega arith) (omega arith))
 
   -- its code
   pub code-same : 1 ≤ words → entryCodeOf f start ≡ entryCodeOf g start
   unfolding entryCodeOf
-  code-same h = bytes-same (4 * (start + (1 - 1))) 4 (omega arith) (omega arith)
+  code-same h = within-entry (4 * (start + (1 - 1))) 4 (omega arith) (omega arith)
 
   -- where its data stands
   pub data-same : 11 ≤ words → dataOf f start ≡ dataOf g start

@@ -1,6 +1,6 @@
 -- Two files with the same first record, of which the second is as long or longer, validate alike. Assumes nothing.
 use Prim.Native.Nat.{ℕ, _+_, _*_, _-_, _%_, _^_, _≤_, _<_}
-use mathlib.Core.Path.{_≡_, ap, _∙_}
+use mathlib.Core.Path.{_≡_, ap}
 use mathlib.Core.Bool.{true}
 use mathlib.Core.List.{List}
 use native.Mathlib.Omega.{arith}
@@ -9,15 +9,16 @@ use lib.Dec.{ltb}
 use lib.ListN.{length}
 use Rattle.image.specs.Image.{part}
 use Rattle.words.specs.Word.{integer4, integer8}
-use Rattle.words.specs.Code.{sameBytes}
 use Rattle.words.proofs.Access.{bits-alike}
 use Rattle.words.proofs.Table.{places-same}
 use Rattle.geometry.specs.declared.units.RecordNumber.{RecordNumber}
 use Rattle.geometry.specs.declared.units.WordNumber.{WordNumber}
 use Rattle.descriptor.specs.declared.numbers.DescriptorNumbers.{DescriptorNumbers}
 use Rattle.descriptor.specs.declared.validating.Validated.the-variants.{Numbers}
-use Rattle.layout.specs.FirstRecordWords.{fileCode, aexWord}
-use Rattle.descriptor.specs.FirstRecord.{fileCodeOf, field4, field8, numbersOf, aexAt, addressesOf}
+use Rattle.layout.specs.FirstRecordWords.{aexWord}
+use Rattle.layout.specs.FileCode.{byteOrderOf}
+use Rattle.layout.proofs.FileCodes.{order-alike}
+use Rattle.descriptor.specs.FirstRecord.{field4, field8, numbersOf, aexAt, addressesOf}
 use Rattle.descriptor.specs.Rules.{fileRefusal}
 use Rattle.descriptor.specs.Answers.{validationOf}
 use Rattle.descriptor.specs.Bounds.{Admitted}
@@ -35,21 +36,24 @@ module _ (f g : List ℕ) (z : fileRefusal f ≡ 0) (first : part g 0 (4 * numbe
   bytes-alike : (at n : ℕ) → at + n ≤ 4 * d .reclen → part g at n ≡ part f at n
   bytes-alike at n h = bytes-same g f 0 (d .reclen) first at n (omega arith) (omega arith)
 
+  order : byteOrderOf g ≡ byteOrderOf f
+  order = order-alike g f (bytes-alike 0 4 (omega (arith, admits .settled .reclen-low)))
+
   -- a field in the first 16 words, and one within the record
   field4-alike : (w : WordNumber) → ltb (w .0 - 1) 16 ≡ true → field4 g w ≡ field4 f w
   unfolding field4
-  field4-alike w h = bits-alike integer4 g f (4 * (w .0 - 1)) (4 * (w .0 - 1)) (bytes-alike (4 * (w .0 - 1)) 4 (omega (arith, ltb-true, admits .settled .reclen-low)))
+  field4-alike w h = bits-alike integer4 g f (4 * (w .0 - 1)) (4 * (w .0 - 1)) order (bytes-alike (4 * (w .0 - 1)) 4 (omega (arith, ltb-true, admits .settled .reclen-low)))
 
   field8-alike : (w : WordNumber) → w .0 - 1 + 1 < d .reclen → field8 g w ≡ field8 f w
   unfolding field8
-  field8-alike w h = bits-alike integer8 g f (4 * (w .0 - 1)) (4 * (w .0 - 1)) (bytes-alike (4 * (w .0 - 1)) 8 (omega arith))
+  field8-alike w h = bits-alike integer8 g f (4 * (w .0 - 1)) (4 * (w .0 - 1)) order (bytes-alike (4 * (w .0 - 1)) 8 (omega arith))
 
   head8-alike : (w : WordNumber) → ltb (w .0 - 1) 15 ≡ true → field8 g w ≡ field8 f w
   head8-alike w h = field8-alike w (omega (arith, ltb-true, admits .settled .reclen-low))
 
   numbers-alike : numbersOf g ≡ d
   unfolding numbersOf
-  numbers-alike = simp (field4-alike, head8-alike)
+  numbers-alike = simp (order, field4-alike, head8-alike)
 
   addresses-alike : addressesOf g (d .nex) ≡ addressesOf f (d .nex)
   unfolding addressesOf
@@ -60,12 +64,9 @@ module _ (f g : List ℕ) (z : fileRefusal f ≡ 0) (first : part g 0 (4 * numbe
   -- the second file is admitted, with the numbers and addresses of the first
   pub first-alike : length f ≤ length g → length g ≤ 2 ^ 30 → length g % (4 * d .reclen) ≡ 0
       → validationOf g ≡ record { refusal = 0; numbers = Numbers d; addresses = addressesOf f (d .nex) }
-  unfolding fileCodeOf
   first-alike long high whole =
       let p = file-passed f z in
-      let code = bytes-alike (4 * (1 - 1)) 4 (omega (arith, admits .settled .reclen-low)) in
       validated g d (addressesOf f (d .nex)) numbers-alike addresses-alike (omega (arith, p .long))
-      (ap (λ (l : List ℕ). sameBytes l fileCode) code ∙ p .code)
       (apt (length f) d (p .settings))
       (record {
         settled = admits .settled;

@@ -83,7 +83,14 @@ pub(crate) fn head_refusal(
 }
 
 // Rules 17 to 19, what the entry at a position holds: the first that is broken, or 0.
-pub(crate) fn content_refusal(order: ByteOrder, file: &[u8], start: u64, nsec: u64, nword: u64, array: Piece) -> u32
+pub(crate) fn content_refusal(
+    order: ByteOrder,
+    file: &[u8],
+    start: u64,
+    nsec: u64,
+    nword: u64,
+    array: Piece,
+) -> u32
     requires { ⌜ Described order (now file) start nsec × (nword < 2 ^ 32) ⌝ }
     ensures { λ r. ⌜ Answers (contentRefusal (now (file .entry)) start nsec nword array) r ⌝ }
 {

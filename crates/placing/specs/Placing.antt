@@ -36,6 +36,7 @@ unfoldable pub numbersAfter : DescriptorNumbers → ℕ → DescriptorNumbers
 numbersAfter d end =
     let next = placeOf (d .reclen) end in
     record {
+      order = d .order;
       reclen = d .reclen;
       kind = d .kind;
       vind = d .vind;

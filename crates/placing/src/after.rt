@@ -31,7 +31,9 @@ pub(crate) fn numbers_after(d: DescriptorNumbers, extends: bool, end: u64) -> De
     let next = place_at(d.reclen, end);
     let nextrec = next.record;
     let nextword = next.word;
+    let order = d.order;
     DescriptorNumbers {
+        order,
         reclen: d.reclen,
         kind: d.kind,
         vind: d.vind,

@@ -113,5 +113,5 @@ stored-appended file d addresses h x =
     let start = entryStart d in
     let first = firstContent (nsecIn h) in
     let p = placedAt d addresses (nwordIn h) in
-    let described = splice (descriptorPut (areaWritten file d) start (headOf h (d .xnext)) (h .ids) (h .lengths)) (wordOffset start first) (h .sections) in
+    let described = splice (descriptorPut (d .order) (areaWritten file d) start (headOf h (d .xnext)) (h .ids) (h .lengths)) (wordOffset start first) (h .sections) in
     ap (λ (at : ℕ). indexPut (splice described at (h .values)) (p .numbers) (p .addresses) (d .xnext) (placeOf (d .reclen) start) (h .index)) (sym (data-next d h (x .fitting) start))

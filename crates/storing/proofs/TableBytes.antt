@@ -12,6 +12,7 @@ use mir.Syntax.{Width}
 use mir.Val.{bytes as width}
 use Rattle.image.specs.Image.{splice}
 use Rattle.image.proofs.Splice.{splice-nil, splice-adjacent}
+use Rattle.words.specs.declared.order.ByteOrder.{ByteOrder}
 use Rattle.words.specs.Word.{integer4, integer8, numeral, signedNumeral}
 use Rattle.words.proofs.Number.{length-numeral}
 use Rattle.geometry.specs.declared.units.EntryAddress.{EntryAddress}
@@ -73,21 +74,21 @@ module _ {width : ℕ} {item : ℕ → ℤ → List ℕ} {bytes : ℕ → List �
   passed-all image at a zs k now h p = rw (take-all k zs h) at (p .2)
 
 -- the table of identifiers, and that of lengths
-pub integer-table : (w : Width) → Table (width w) (λ a z. signedNumeral w z) (λ a zs. integerBytes w zs)
-integer-table w = record { none = λ a. refl; more = λ a z zs. refl; wide = λ a z. length-numeral (width w) _ }
+pub integer-table : (o : ByteOrder) (w : Width) → Table (width w) (λ a z. signedNumeral o w z) (λ a zs. integerBytes o w zs)
+integer-table o w = record { none = λ a. refl; more = λ a z zs. refl; wide = λ a z. length-numeral o (width w) _ }
 
 -- the table of addresses
-pub address-table : Table 8 (λ a z. numeral 8 a) (λ a zs. addressBytes (record { 0 = a }) zs)
-address-table = record { none = λ a. refl; more = λ a z zs. refl; wide = λ a z. length-numeral 8 a }
+pub address-table : (o : ByteOrder) → Table 8 (λ a z. numeral o 8 a) (λ a zs. addressBytes o (record { 0 = a }) zs)
+address-table o = record { none = λ a. refl; more = λ a z zs. refl; wide = λ a z. length-numeral o 8 a }
 
 -- the bytes of so many identifiers
-pub length-identifierBytes : (zs : List ℤ) → length (identifierBytes zs) ≡ 4 * length zs
-length-identifierBytes zs = table-length (integer-table integer4) 0 zs
+pub length-identifierBytes : (o : ByteOrder) (zs : List ℤ) → length (identifierBytes o zs) ≡ 4 * length zs
+length-identifierBytes o zs = table-length (integer-table o integer4) 0 zs
 
 -- of so many lengths
-pub length-lengthBytes : (zs : List ℤ) → length (lengthBytes zs) ≡ 8 * length zs
-length-lengthBytes zs = table-length (integer-table integer8) 0 zs
+pub length-lengthBytes : (o : ByteOrder) (zs : List ℤ) → length (lengthBytes o zs) ≡ 8 * length zs
+length-lengthBytes o zs = table-length (integer-table o integer8) 0 zs
 
 -- and of so many addresses
-pub length-addressBytes : (a : EntryAddress) (zs : List ℤ) → length (addressBytes a zs) ≡ 8 * length zs
-length-addressBytes a zs = table-length address-table (a .0) zs
+pub length-addressBytes : (o : ByteOrder) (a : EntryAddress) (zs : List ℤ) → length (addressBytes o a zs) ≡ 8 * length zs
+length-addressBytes o a zs = table-length (address-table o) (a .0) zs

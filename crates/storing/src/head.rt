@@ -6,6 +6,7 @@ use geometry::entry_position;
 use layout::entry_descriptor;
 use layout::entry_descriptor::descriptor_words;
 use layout::entry_descriptor::first_content;
+use words::ByteOrder;
 ghost use mathlib.Core.Bool.{cond};
 ghost use Prim.Native.Nat.{_+_, _*_, _^_, _≤_, _<_};
 ghost use lib.ListN.{length};
@@ -55,17 +56,22 @@ pub fn head_of(version: i32, nsec: u64, section_words: u64, ldata: u64, number: 
 }
 
 // Writes the Integer*8 at a word of the entry and the next.
-fn put_word8(file: &mut [u8], start: u64, address: EntryAddress, bits: u64)
+fn put_word8(order: ByteOrder, file: &mut [u8], start: u64, address: EntryAddress, bits: u64)
     requires { ⌜ (1 ≤ address .0) × (start + address .0 < 2 ^ 32) × (4 * (start + address .0 + 1) ≤ length (now file)) ⌝ }
-    ensures { λ _. ⌜ Leaves (splice (now (file .entry)) (wordOffset start address) (numeral 8 bits)) (now (file .exit)) ⌝ }
+    ensures { λ _. ⌜ Leaves (splice (now (file .entry)) (wordOffset start address) (numeral order 8 bits)) (now (file .exit)) ⌝ }
 {
-    words::put_u64(file, byte_offset(entry_position(start, address)), bits)
+    words::put_u64(
+        order,
+        file,
+        byte_offset(entry_position(start, address)),
+        bits,
+    )
 }
 
 // Writes the head of the entry.
-pub(crate) fn put_head(file: &mut [u8], start: u64, head: Head)
+pub(crate) fn put_head(order: ByteOrder, file: &mut [u8], start: u64, head: Head)
     requires { ⌜ (start < 2 ^ 31) × (4 * (start + headWords) ≤ length (now file)) × (head .nsec ≤ sectionsMax) ⌝ }
-    ensures { λ _. ⌜ Leaves (writes (now (file .entry)) (headWrites start head)) (now (file .exit)) ⌝ }
+    ensures { λ _. ⌜ Leaves (writes (now (file .entry)) (headWrites order start head)) (now (file .exit)) ⌝ }
 {
     let code = entry_descriptor::ENTRY_CODE;
     image::put(
@@ -74,17 +80,19 @@ pub(crate) fn put_head(file: &mut [u8], start: u64, head: Head)
         &code,
     );
     words::put_i32(
+        order,
         file,
         byte_offset(entry_position(start, entry_descriptor::VERSION)),
         head.version,
     );
     words::put_u32(
+        order,
         file,
         byte_offset(entry_position(start, entry_descriptor::NSEC)),
         head.nsec as u32,
     );
-    put_word8(file, start, entry_descriptor::NWORD, head.nword);
-    put_word8(file, start, entry_descriptor::ADATA, head.adata.0);
-    put_word8(file, start, entry_descriptor::LDATA, head.ldata);
-    put_word8(file, start, entry_descriptor::XNUM, head.xnum.0);
+    put_word8(order, file, start, entry_descriptor::NWORD, head.nword);
+    put_word8(order, file, start, entry_descriptor::ADATA, head.adata.0);
+    put_word8(order, file, start, entry_descriptor::LDATA, head.ldata);
+    put_word8(order, file, start, entry_descriptor::XNUM, head.xnum.0);
 }

@@ -19,6 +19,7 @@ use geometry::entry_position;
 use layout::first_record;
 use layout::first_record::aex_word;
 use placing::new_area;
+use words::ByteOrder;
 ghost use mathlib.Core.Path.{_≡_};
 ghost use Prim.Native.Nat.{_+_, _*_, _-_, _^_, _≤_, _<_};
 ghost use lib.ListN.{length};
@@ -43,19 +44,26 @@ pub fn put_area(file: &mut [u8], d: DescriptorNumbers, extends: bool, start: u64
     if extends {
         let free = free_position(d);
         image::zero(file, byte_offset(free), byte_offset(start - free));
-        put_field4(file, first_record::NEX, d.nex + 1);
+        put_field4(d.order, file, first_record::NEX, d.nex + 1);
         let word = aex_word(ExtensionNumber(d.nex + 1));
-        put_field8(file, word, new_area(d).0);
+        put_field8(d.order, file, word, new_area(d).0);
     }
 }
 
 // Writes the descriptor of the entry: its head and its tables.
-pub fn put_descriptor(file: &mut [u8], start: u64, head: Head, ids: &[i32], lengths: &[i64])
+pub fn put_descriptor(
+    order: ByteOrder,
+    file: &mut [u8],
+    start: u64,
+    head: Head,
+    ids: &[i32],
+    lengths: &[i64],
+)
     requires { ⌜ Describing (length (now file)) start head (now ids) (now lengths) ⌝ }
-    ensures { λ _. ⌜ Leaves (descriptorPut (now (file .entry)) start head (now (ids .entry)) (now (lengths .entry))) (now (file .exit)) ⌝ }
+    ensures { λ _. ⌜ Leaves (descriptorPut order (now (file .entry)) start head (now (ids .entry)) (now (lengths .entry))) (now (file .exit)) ⌝ }
 {
-    put_head(file, start, head);
-    put_tables(file, start, ids, lengths);
+    put_head(order, file, start, head);
+    put_tables(order, file, start, ids, lengths);
 }
 
 // Writes the sections and the data of the entry, from a word of it on.
@@ -69,12 +77,12 @@ pub fn put_content(file: &mut [u8], start: u64, first: EntryAddress, sections: &
 }
 
 // Writes the index of the entry: where it starts, and the application's words.
-fn put_slot(file: &mut [u8], slot: u64, place: Place, index: &[u8])
+fn put_slot(order: ByteOrder, file: &mut [u8], slot: u64, place: Place, index: &[u8])
     requires { ⌜ (slot < 2 ^ 32) × (place .word .0 < 2 ^ 32) × (4 * (slot + 3) + length (now index) ≤ length (now file)) ⌝ }
-    ensures { λ _. ⌜ Leaves (writes (now (file .entry)) (slotWrites slot place (now (index .entry)))) (now (file .exit)) ⌝ }
+    ensures { λ _. ⌜ Leaves (writes (now (file .entry)) (slotWrites order slot place (now (index .entry)))) (now (file .exit)) ⌝ }
 {
-    words::put_u64(file, byte_offset(slot), place.record.0);
-    words::put_u32(file, byte_offset(slot + 2), place.word.0 as u32);
+    words::put_u64(order, file, byte_offset(slot), place.record.0);
+    words::put_u32(order, file, byte_offset(slot + 2), place.word.0 as u32);
     image::put(file, byte_offset(slot + 3), index);
 }
 
@@ -92,6 +100,6 @@ pub fn put_index(
     ensures { λ _. ⌜ Leaves (indexPut (now (file .entry)) numbers addresses number place (now (index .entry))) (now (file .exit)) ⌝ }
 {
     let slot = slot_position(file.len() as u64, numbers, addresses, number);
-    put_slot(file, slot, place, index);
+    put_slot(numbers.order, file, slot, place, index);
     put_counts(file, numbers);
 }

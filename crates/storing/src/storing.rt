@@ -30,7 +30,7 @@ pub fn store(
     ensures { λ _. ⌜ Leaves (storedAt (now (file .entry)) d placed head (handed (head .version) index ids lengths sections values)) (now (file .exit)) ⌝ }
 {
     put_area(file, d, placed.extends, placed.start);
-    put_descriptor(file, placed.start, head, ids, lengths);
+    put_descriptor(d.order, file, placed.start, head, ids, lengths);
     put_content(
         file,
         placed.start,

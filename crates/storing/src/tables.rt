@@ -6,6 +6,7 @@ use layout::entry_descriptor::address_word;
 use layout::entry_descriptor::first_content;
 use layout::entry_descriptor::identifier_word;
 use layout::entry_descriptor::length_word;
+use words::ByteOrder;
 ghost use mathlib.Core.Path.{_≡_};
 ghost use mathlib.Core.Bool.{true};
 ghost use Prim.Native.Nat.{_+_, _*_, _^_, _≤_, _<_};
@@ -19,57 +20,90 @@ ghost use Rattle.storing.specs.Handed.{sumOf, positive};
 ghost use Rattle.storing.specs.Writing.{identifierBytes, lengthBytes, addressBytes, tableWrites};
 
 // Writes identifiers one after another from a position on.
-fn put_identifiers(file: &mut [u8], position: u64, ids: &[i32])
+fn put_identifiers(order: ByteOrder, file: &mut [u8], position: u64, ids: &[i32])
     requires { ⌜ (position < 2 ^ 32) × (length (now ids) ≤ sectionsMax) × (4 * (position + length (now ids)) ≤ length (now file)) ⌝ }
-    ensures { λ _. ⌜ Leaves (splice (now (file .entry)) (offsetOf position) (identifierBytes (now (ids .entry)))) (now (file .exit)) ⌝ }
+    ensures { λ _. ⌜ Leaves (splice (now (file .entry)) (offsetOf position) (identifierBytes order (now (ids .entry)))) (now (file .exit)) ⌝ }
 {
     let mut done = 0;
     while done < ids.len() {
         let identifier = ids[done];
-        words::put_i32(file, byte_offset(position + (done as u64)), identifier);
+        words::put_i32(
+            order,
+            file,
+            byte_offset(position + (done as u64)),
+            identifier,
+        );
         done += 1;
     }
 }
 
 // Writes lengths one after another from a position on.
-fn put_lengths(file: &mut [u8], position: u64, lengths: &[i64])
+fn put_lengths(order: ByteOrder, file: &mut [u8], position: u64, lengths: &[i64])
     requires { ⌜ (position < 2 ^ 32) × (length (now lengths) ≤ sectionsMax) × (4 * (position + 2 * length (now lengths)) ≤ length (now file)) ⌝ }
-    ensures { λ _. ⌜ Leaves (splice (now (file .entry)) (offsetOf position) (lengthBytes (now (lengths .entry)))) (now (file .exit)) ⌝ }
+    ensures { λ _. ⌜ Leaves (splice (now (file .entry)) (offsetOf position) (lengthBytes order (now (lengths .entry)))) (now (file .exit)) ⌝ }
 {
     let mut done = 0;
     while done < lengths.len() {
         let words = lengths[done];
-        words::put_i64(file, byte_offset(position + 2 * (done as u64)), words);
+        words::put_i64(
+            order,
+            file,
+            byte_offset(position + 2 * (done as u64)),
+            words,
+        );
         done += 1;
     }
 }
 
 // Writes the addresses of sections of these lengths, the first at `first` in its entry, one address
 // after another from a position on.
-fn put_addresses(file: &mut [u8], position: u64, first: EntryAddress, lengths: &[i64])
+fn put_addresses(
+    order: ByteOrder,
+    file: &mut [u8],
+    position: u64,
+    first: EntryAddress,
+    lengths: &[i64],
+)
     requires { ⌜ (position < 2 ^ 32) × (length (now lengths) ≤ sectionsMax) × (4 * (position + 2 * length (now lengths)) ≤ length (now file))
         × (positive (now lengths) (length (now lengths)) ≡ true) × (first .0 + sumOf (now lengths) < 2 ^ 63) ⌝ }
-    ensures { λ _. ⌜ Leaves (splice (now (file .entry)) (offsetOf position) (addressBytes first (now (lengths .entry)))) (now (file .exit)) ⌝ }
+    ensures { λ _. ⌜ Leaves (splice (now (file .entry)) (offsetOf position) (addressBytes order first (now (lengths .entry)))) (now (file .exit)) ⌝ }
 {
     let mut address = first.0;
     let mut done = 0;
     while done < lengths.len() {
-        words::put_u64(file, byte_offset(position + 2 * (done as u64)), address);
+        words::put_u64(
+            order,
+            file,
+            byte_offset(position + 2 * (done as u64)),
+            address,
+        );
         address += words::bits64(lengths[done]);
         done += 1;
     }
 }
 
 // Writes the tables of the entry.
-pub(crate) fn put_tables(file: &mut [u8], start: u64, ids: &[i32], lengths: &[i64])
+pub(crate) fn put_tables(
+    order: ByteOrder,
+    file: &mut [u8],
+    start: u64,
+    ids: &[i32],
+    lengths: &[i64],
+)
     requires { ⌜ (start < 2 ^ 31) × (length (now ids) ≤ sectionsMax) × (length (now lengths) ≡ length (now ids)) × (4 * (start + descriptorWords (length (now ids))) ≤ length (now file))
         × (positive (now lengths) (length (now lengths)) ≡ true) × (sumOf (now lengths) < 2 ^ 62) ⌝ }
-    ensures { λ _. ⌜ Leaves (writes (now (file .entry)) (tableWrites start (now (ids .entry)) (now (lengths .entry)))) (now (file .exit)) ⌝ }
+    ensures { λ _. ⌜ Leaves (writes (now (file .entry)) (tableWrites order start (now (ids .entry)) (now (lengths .entry)))) (now (file .exit)) ⌝ }
 {
     let nsec = ids.len() as u64;
-    put_identifiers(file, entry_position(start, identifier_word(0)), ids);
-    put_lengths(file, entry_position(start, length_word(nsec, 0)), lengths);
+    put_identifiers(order, file, entry_position(start, identifier_word(0)), ids);
+    put_lengths(
+        order,
+        file,
+        entry_position(start, length_word(nsec, 0)),
+        lengths,
+    );
     put_addresses(
+        order,
         file,
         entry_position(start, address_word(nsec, 0)),
         first_content(nsec),

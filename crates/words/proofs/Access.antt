@@ -50,10 +50,10 @@ bits-of o w image at u f e =
 pub value-of : (o : ByteOrder) (w : Width) (image : List ℕ) (at : ℕ) (z : ℤ) → SFits w z → part image at (length (signedNumeral o w z)) ≡ signedNumeral o w z → signedAt o w image at ≡ z
 value-of o w image at z f e = rw (bits-of o w image at (bitsOf w z) (fits-ofZ f .fits) e) (signed-bits w z f)
 
--- equal bytes give equal bits
-pub bits-alike : (o : ByteOrder) (w : Width) (f g : List ℕ) (a b : ℕ) → part f a (bytes w) ≡ part g b (bytes w) → bitsAt o w f a ≡ bitsAt o w g b
+-- equal bytes in one order give equal bits
+pub bits-alike : {o p : ByteOrder} (w : Width) (f g : List ℕ) (a b : ℕ) → o ≡ p → part f a (bytes w) ≡ part g b (bytes w) → bitsAt o w f a ≡ bitsAt p w g b
 unfolding bitsAt
-bits-alike o w f g a b e = ap (number o) e
+bits-alike {o} {p} w f g a b q e = rw q (ap (number p) e)
 
 -- one of writes that follow one another is read there
 pub bits-follow : (o : ByteOrder) (w : Width) (image : List ℕ) (a : ℕ) (ws : List Write) → Follows a ws → (k at u : ℕ) → BehindOf k (put at (numeral o (bytes w) u)) ws → u < 2 ^ bits w

@@ -1,7 +1,7 @@
 -- `storing::head::put_head` meets its contract: the words are written one after the other. Assumes nothing.
-use mathlib.Core.Path.{_≡_}
+use mathlib.Core.Path.{_≡_, _∙_}
 use native.Mathlib.Omega.{arith}
-use lib.ListN.{take}
+use lib.ListN.{length, take}
 use mir.Syntax.{w32}
 use mir.Facts.{toZ-ofZ}
 use Rattle.image.specs.Writes.{writes}
@@ -33,22 +33,40 @@ abbrev began : tie.After-put-u32 → tie.Start
 began c = at-code (at-version (at-nsec c) .before .before .before) .before .before
 
 -- the file once the words 1 to 3 are written
-three : (c : tie.After-put-u32) → let a = began c .args in c .put-u32 .last .0 ≡ writes (a .file .now) (take 3 (headWrites (a .start) (a .head)))
+three : (c : tie.After-put-u32) → let a = began c .args in c .put-u32 .last .1 .0 ≡ writes (a .file .now) (take 3 (headWrites (a .order) (a .start) (a .head)))
 three c =
     let h = at-nsec c .before .struct-told .given .0 .1 in
     cc (toZ-ofZ {w = w32} {z = began c .args .head .version} (record { sfits = h }))
 
+-- each word keeps the file's length
+three-long : (c : tie.After-put-u32) → length (c .put-u32 .last .1 .0) ≡ length (began c .args .file .now)
+three-long c =
+    let v = at-nsec c in
+    c .put-u32 .kept .1 .0 ∙ v .put-i32 .kept .1 .0 ∙ at-version v .before .before .before .put .kept .0
+
+nword-long : (c : tie.After-put-word8) → length (c .put-word8 .last .1 .0) ≡ length (began (at-nword c) .args .file .now)
+nword-long c = c .put-word8 .kept .1 .0 ∙ three-long (at-nword c)
+
+adata-long : (c : tie.After-put-word82) → length (c .put-word82 .last .1 .0) ≡ length (began (at-nword (at-adata c)) .args .file .now)
+adata-long c = c .put-word82 .kept .1 .0 ∙ nword-long (at-adata c)
+
+ldata-long : (c : tie.After-put-word83) → length (c .put-word83 .last .1 .0) ≡ length (began (at-nword (at-adata (at-ldata c))) .args .file .now)
+ldata-long c = c .put-word83 .kept .1 .0 ∙ adata-long (at-ldata c)
+
+put-word8-requires : tie.Need-put-word8-requires
+put-word8-requires c κs = let p = c .before .before .before in let h = began p .pre in omega (arith, three-long p)
+
 put-word8-requires-2 : tie.Need-put-word8-requires-2
-put-word8-requires-2 c κs = omega (arith, at-nsec (at-nword (c .before .before .before)))
+put-word8-requires-2 c κs = let p = c .before .before .before in let h = began (at-nword p) .pre in omega (arith, nword-long p)
 
 put-word8-requires-3 : tie.Need-put-word8-requires-3
-put-word8-requires-3 c κs = omega (arith, at-nsec (at-nword (at-adata (c .before .before .before))))
+put-word8-requires-3 c κs = let p = c .before .before .before in let h = began (at-nword (at-adata p)) .pre in omega (arith, adata-long p)
 
 put-word8-requires-4 : tie.Need-put-word8-requires-4
-put-word8-requires-4 c κs = omega (arith, at-nsec (at-nword (at-adata (at-ldata (c .before .before .before)))))
+put-word8-requires-4 c κs = let p = c .before .before .before in let h = began (at-nword (at-adata (at-ldata p))) .pre in omega (arith, ldata-long p)
 
 same-length : tie.Need-same-length
-same-length c = let p = c .before .before in omega (arith, at-nsec (at-nword (at-adata (at-ldata (p .before .before .before .before)))))
+same-length c = let p = c .before .before in p .put-word84 .kept .1 .0 ∙ ldata-long (p .before .before .before .before)
 
 returns : tie.Need-returns
 returns c =
@@ -73,7 +91,7 @@ put-head-spec =
     (λ c κs. search needs)
     (λ c. search needs)
     (λ c κs. search needs)
-    (λ c κs. search needs)
+    put-word8-requires
     put-word8-requires-2
     put-word8-requires-3
     put-word8-requires-4

@@ -64,8 +64,8 @@ returns c =
     let at = b .byte-offset .ensures ∙ ap offsetOf free in
     let many = z .before .byte-offset2 .ensures ∙ (λ i. offsetOf (s .pre .5 i - free i)) in
     let cleared = z .zero .ensures ∙ (λ i. splice (s .args .file .now) (at i) (zeros (many i))) in
-    let counted = f .put-field4 .ensures ∙ (λ i. splice (cleared i) (firstRecordOffsetOf nexWord) (numeral 4 (s .args .d .nex + 1))) in
-    rw (extended (taken f)) (p .put-field8 .ensures ∙ (λ i. splice (counted i) (firstRecordOffsetOf (word (n .before .before) i)) (numeral 8 (n .new-area .ensures i .0))))
+    let counted = f .put-field4 .ensures ∙ (λ i. splice (cleared i) (firstRecordOffsetOf nexWord) (numeral (s .args .d .order) 4 (s .args .d .nex + 1))) in
+    rw (extended (taken f)) (p .put-field8 .ensures ∙ (λ i. splice (counted i) (firstRecordOffsetOf (word (n .before .before) i)) (numeral (s .args .d .order) 8 (n .new-area .ensures i .0))))
 
 returns-2 : tie.Need-returns-2
 unfolding areaWritten

@@ -18,14 +18,14 @@ put-tables-requires : tie.Need-put-tables-requires
 put-tables-requires c κs =
     let h = c .before .before .before in
     let p = h .before .before .before .pre in
-    (p .low, p .few, p .pairs, omega (arith, p .inside, h .put-head .kept .0), p .counted, p .small)
+    (p .low, p .few, p .pairs, omega (arith, p .inside, h .put-head .kept .1 .0), p .counted, p .small)
 
 returns : tie.Need-returns
 returns c =
     let t = c .before .before in
     let h = t .before .before .before .before in
     let a = h .before .before .before .args in
-    t .put-tables .ensures ∙ ap (λ (f : List ℕ). writes f (tableWrites (a .start) (a .ids .now) (a .lengths .now))) (h .put-head .ensures)
+    t .put-tables .ensures ∙ ap (λ (f : List ℕ). writes f (tableWrites (a .order) (a .start) (a .ids .now) (a .lengths .now))) (h .put-head .ensures)
 
 pub put-descriptor-spec : {M : Type 1} → statement M
 put-descriptor-spec =

@@ -29,7 +29,7 @@ put-counts-requires : tie.Need-put-counts-requires
 put-counts-requires c κs =
     let p = c .before .before .before in
     let a = p .before .before .before .before .before .pre .0 in
-    (omega (arith, a .free .word-high, a .settled .reclen-high), omega (arith, a .lent .first, a .settled .reclen-low, p .put-slot .kept .0))
+    (omega (arith, a .free .word-high, a .settled .reclen-high), omega (arith, a .lent .first, a .settled .reclen-low, p .put-slot .kept .1 .0))
 
 returns : tie.Need-returns
 returns c =
@@ -38,7 +38,7 @@ returns c =
     let q = p .before .before in
     let a = q .before .before .before .args in
     counts .put-counts .ensures
-    ∙ (λ i. writes ((p .put-slot .ensures ∙ (λ j. writes (a .file .now) (slotWrites (q .slot-position .ensures j) (a .place) (a .index .now)))) i) (countWrites (a .numbers)))
+    ∙ (λ i. writes ((p .put-slot .ensures ∙ (λ j. writes (a .file .now) (slotWrites (a .numbers .order) (q .slot-position .ensures j) (a .place) (a .index .now)))) i) (countWrites (a .numbers)))
 
 pub put-index-spec : {M : Type 1} → statement M
 put-index-spec =

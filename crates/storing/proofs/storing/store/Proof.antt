@@ -27,8 +27,8 @@ abbrev handed : tie.Start → Handed
 handed s = handedIn (s .args .head .version) (s .args .index .now) (s .args .ids .now) (s .args .lengths .now) (s .args .sections .now) (s .args .values .now)
 
 -- each step keeps the file's length
-after-descriptor : (c : tie.After-put-descriptor) → length (c .put-descriptor .last .0) ≡ length (began (area-put c) .args .file .now)
-after-descriptor c = c .put-descriptor .kept .0 ∙ area-put c .put-area .kept .0
+after-descriptor : (c : tie.After-put-descriptor) → length (c .put-descriptor .last .1 .0) ≡ length (began (area-put c) .args .file .now)
+after-descriptor c = c .put-descriptor .kept .1 .0 ∙ area-put c .put-area .kept .0
 
 after-content : (c : tie.After-put-content) → length (c .put-content .last .0) ≡ length (began (area-put (descriptor-put c)) .args .file .now)
 after-content c = c .put-content .kept .0 ∙ after-descriptor (descriptor-put c)
@@ -85,7 +85,7 @@ returns c =
     ((content .put-content .ensures
     ∙ (λ j.
     contentPut
-    ((described .put-descriptor .ensures ∙ (λ k. descriptorPut (area .put-area .ensures k) (p .start) (a .head) (a .ids .now) (a .lengths .now))) j)
+    ((described .put-descriptor .ensures ∙ (λ k. descriptorPut (d .order) (area .put-area .ensures k) (p .start) (a .head) (a .ids .now) (a .lengths .now))) j)
     (p .start) (content .before .first-content .ensures j) (a .sections .now) (a .values .now)))
     i)
     (p .numbers) (p .addresses) (d .xnext) (index .before .place-at .ensures i) (a .index .now))

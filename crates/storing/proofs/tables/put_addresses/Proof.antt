@@ -16,11 +16,11 @@ use Rattle.storing.proofs.tables.put_addresses.Statement.{statement}
 use Rattle.storing.proofs.tables.put_addresses.Tie as tie
 
 abbrev Inv-loop : tie.InvT-loop
-Inv-loop file₀ position lengths first done₀ file address done =
-    Passed address-table file₀ (offsetOf position) first lengths done file × (address ≡ first + sumOf (take done lengths))
+Inv-loop order file₀ position lengths first done₀ file address done =
+    Passed (address-table order) file₀ (offsetOf position) first lengths done file × (address ≡ first + sumOf (take done lengths))
 
 abbrev μ-loop : tie.MeasureT-loop
-μ-loop file₀ position lengths first done₀ file address done = length lengths - done
+μ-loop order file₀ position lengths first done₀ file address done = length lengths - done
 
 -- the places on the way, each from the one behind it
 abbrev put-at : tie.After-bits64 Inv-loop μ-loop → tie.After-put-u64 Inv-loop μ-loop
@@ -49,13 +49,13 @@ loop-again c =
     let p = put-at c in
     let l = turn-at p .before .loop in
     let a = began (turn-at p) .args in (
-      passed-next address-table (now (a .file)) (offsetOf (a .position)) (a .first .0) (now (a .lengths)) (l .done) (l .file) (p .put-u64 .last .0) (p .before .byte-offset .result)
-          (omega arith) (l .inv .0) (omega arith) (omega arith) (p .put-u64 .ensures ∙ ap (λ (n : ℕ). splice (l .file) (p .before .byte-offset .result) (numeral 8 n)) (l .inv .1)),
+      passed-next (address-table (a .order)) (now (a .file)) (offsetOf (a .position)) (a .first .0) (now (a .lengths)) (l .done) (l .file) (p .put-u64 .last .1 .0) (p .before .byte-offset .result)
+          (omega arith) (l .inv .0) (omega arith) (omega arith) (p .put-u64 .ensures ∙ ap (λ (n : ℕ). splice (l .file) (p .before .byte-offset .result) (numeral (a .order) 8 n)) (l .inv .1)),
       omega (arith, words c, sum-next (now (a .lengths)) (l .done) (omega arith)),
     )
 
 returns : tie.Need-returns Inv-loop μ-loop
-returns c = passed-all address-table _ _ (c .before .before .before .args .first .0) (c .before .before .before .args .lengths .now) _ _ (c .loop-test .left) (c .before .loop .inv .0)
+returns c = passed-all (address-table (c .before .before .before .args .order)) _ _ (c .before .before .before .args .first .0) (c .before .before .before .args .lengths .now) _ _ (c .loop-test .left) (c .before .loop .inv .0)
 
 pub put-addresses-spec : {M : Type 1} → statement M
 put-addresses-spec =
@@ -63,7 +63,7 @@ put-addresses-spec =
     (tie.spec
     Inv-loop
     μ-loop
-    (λ c. (passed-none address-table _ _ (c .before .args .first .0) (c .before .args .lengths .now), omega arith))
+    (λ c. (passed-none (address-table (c .before .args .order)) _ _ (c .before .args .first .0) (c .before .args .lengths .now), omega arith))
     (λ c. search needs)
     (λ c. search needs)
     (λ c κs. search needs)

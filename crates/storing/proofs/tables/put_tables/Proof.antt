@@ -53,7 +53,7 @@ put-addresses-requires c κs =
     let s = first (second q) in (
       omega (arith, at-addresses p),
       omega arith,
-      omega (arith, at-addresses p, q .put-lengths .kept .0, second q .put-identifiers .kept .0),
+      omega (arith, at-addresses p, q .put-lengths .kept .1 .0, second q .put-identifiers .kept .1 .0),
       s .pre .4,
       omega (arith, ap (λ (a : EntryAddress). a .0) (c .first-content .ensures), s .pre .5),
     )
@@ -64,9 +64,9 @@ returns c =
     let q = third p in
     let r = second q in
     let a = first r .args in
-    let identifiers = r .put-identifiers .ensures ∙ (λ i. splice (a .file .now) (offsetOf (at-identifiers (r .before) i)) (identifierBytes (a .ids .now))) in
-    let lengths = q .put-lengths .ensures ∙ (λ i. splice (identifiers i) (offsetOf (at-lengths (q .before) i)) (lengthBytes (a .lengths .now))) in
-    p .put-addresses .ensures ∙ (λ i. splice (lengths i) (offsetOf (at-addresses (p .before .before) i)) (addressBytes (p .before .first-content .ensures i) (a .lengths .now)))
+    let identifiers = r .put-identifiers .ensures ∙ (λ i. splice (a .file .now) (offsetOf (at-identifiers (r .before) i)) (identifierBytes (a .order) (a .ids .now))) in
+    let lengths = q .put-lengths .ensures ∙ (λ i. splice (identifiers i) (offsetOf (at-lengths (q .before) i)) (lengthBytes (a .order) (a .lengths .now))) in
+    p .put-addresses .ensures ∙ (λ i. splice (lengths i) (offsetOf (at-addresses (p .before .before) i)) (addressBytes (a .order) (p .before .first-content .ensures i) (a .lengths .now)))
 
 pub put-tables-spec : {M : Type 1} → statement M
 put-tables-spec =
