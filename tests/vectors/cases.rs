@@ -1,72 +1,84 @@
 //! The cases of the calls that read, and of creation: both sides of each bound of document 01.
 
 use crate::files::{
-    a, a_after, after, bare, created, settings as chosen, with4, with8, with_byte, words, ENTRY, INDEX,
+    a, a_after, after, bare, created, in_order, named, settings as chosen, with4, with8, with_byte, words, ENTRY, INDEX,
 };
-use crate::lines::{check, create, data, describe, extension, index, open, section, show, tables, validate};
-use crate::reference::{Addition, Settings};
+use crate::lines::{
+    check, create, data, describe, every_call as every, extension, index, open, section, show, tables, validate,
+};
+use crate::orders::{codes, settings as order_settings};
+use crate::reference::{Addition, Order, Settings, ENTRY_CODE};
 
 const WORD: i64 = 1 << 32;
 const WRAP: i64 = 1 << 62;
 
-/// File A, P6 and P7.
+/// File A, P6 and P7, each in both orders.
 pub fn examples() {
-    describe("A created", &a_after(0));
-    describe("A after (1)", &a_after(1));
-    describe("A after (2)", &a_after(2));
-    let file = a();
-    describe("A", &file);
+    Order::BOTH.into_iter().for_each(example_a);
+    Order::BOTH.into_iter().for_each(crossing);
+    Order::BOTH.into_iter().for_each(growing);
+}
+
+/// File A as it grows, its records, extensions and entries, and the parts that are handed out of it.
+fn example_a(order: Order) {
+    let a = named(order, "A");
+    describe(&format!("{a} created"), &a_after(order, 0));
+    describe(&format!("{a} after (1)"), &a_after(order, 1));
+    describe(&format!("{a} after (2)"), &a_after(order, 2));
+    let file = a_after(order, 3);
+    describe(&a, &file);
     for (i, bytes) in file.chunks(80).enumerate() {
-        show(&format!("A record {}", i + 1), bytes);
+        show(&format!("{a} record {}", i + 1), bytes);
     }
-    extension("A 1", &file, 1);
-    extension("A 2", &file, 2);
+    extension(&format!("{a} 1"), &file, 1);
+    extension(&format!("{a} 2"), &file, 2);
     for entry in 1..=3 {
-        open(&format!("A {entry}"), &file, entry);
+        open(&format!("{a} {entry}"), &file, entry);
     }
-    tables("A 1", &file, 1);
-    check("A", &file);
+    tables(&format!("{a} 1"), &file, 1);
+    check(&a, &file);
     for entry in 1..=3 {
-        index(&format!("A {entry}"), &file, entry);
+        index(&format!("{a} {entry}"), &file, entry);
     }
-    section("A 1 identifier 7", &file, 1, 7);
-    data("A 1", &file, 1);
-    data("A 2", &file, 2);
-    crossing();
-    growing();
+    section(&format!("{a} 1 identifier 7"), &file, 1, 7);
+    data(&format!("{a} 1"), &file, 1);
+    data(&format!("{a} 2"), &file, 2);
 }
 
 /// P6: reclen 16 and lind 5, the fourth index crosses a record.
-fn crossing() {
-    let empty = created(384, 0, chosen(16, 5, 4, 10));
+fn crossing(order: Order) {
+    let p6 = named(order, "P6");
+    let empty = created(384, 0, in_order(order, chosen(16, 5, 4, 10)));
     let file = (41..=44).fold(empty, |file, first| after(file, &bare(&[first, 99])));
-    show("P6 record 2", &file[64..128]);
-    show("P6 record 3", &file[128..192]);
-    open("P6 4", &file, 4);
-    index("P6 3", &file, 3);
-    index("P6 4", &file, 4);
-    check("P6", &file);
+    show(&format!("{p6} record 2"), &file[64..128]);
+    show(&format!("{p6} record 3"), &file[128..192]);
+    open(&format!("{p6} 4"), &file, 4);
+    index(&format!("{p6} 3"), &file, 3);
+    index(&format!("{p6} 4"), &file, 4);
+    check(&p6, &file);
 }
 
 /// P7: lex1 5 and gex 15, 24 entries without index words: the first of the fourth extension is the last.
-fn growing() {
-    let file = (0..24).fold(created(3520, 0, chosen(22, 3, 5, 15)), |file, _| after(file, &bare(&[])));
-    describe("P7", &file);
+fn growing(order: Order) {
+    let p7 = named(order, "P7");
+    let empty = created(3520, 0, in_order(order, chosen(22, 3, 5, 15)));
+    let file = (0..24).fold(empty, |file, _| after(file, &bare(&[])));
+    describe(&p7, &file);
     for number in 1..=4 {
-        extension(&format!("P7 {number}"), &file, number);
+        extension(&format!("{p7} {number}"), &file, number);
     }
-    index("P7 24", &file, 24);
-    check("P7", &file);
+    index(&format!("{p7} 24"), &file, 24);
+    check(&p7, &file);
 }
 
 /// The settings of file A with another reclen.
-fn reclen(value: i32) -> Settings {
+pub fn reclen(value: i32) -> Settings {
     chosen(value, 4, 2, 20)
 }
 
-/// One setting of file A, by create and by validate.
-fn setting(field: &str, word: usize, value: i32) {
-    let mut s = reclen(20);
+/// One setting of file A in an order, by create and by validate.
+pub fn setting(order: Order, field: &str, word: usize, value: i32) {
+    let mut s = in_order(order, reclen(20));
     match field {
         "kind" => s.kind = value,
         "vind" => s.vind = value,
@@ -76,17 +88,16 @@ fn setting(field: &str, word: usize, value: i32) {
         "gex" => s.gex = value,
         _ => unreachable!("{field} is no setting"),
     }
-    create(&format!("{field} {value}"), 480, s);
-    validate(&format!("{field} {value}"), &with4(a(), word, value));
+    let name = named(order, &format!("{field} {value}"));
+    create(&name, 480, s);
+    validate(&name, &with4(a_after(order, 3), word, value));
 }
 
 /// Refusals 1 to 8.
 pub fn settings() {
     lengths();
-    validate("A code 31 41 20 20", &with_byte(a(), 0, 0x31));
-    validate("A code 32 42 20 20", &with_byte(a(), 1, 0x42));
-    validate("A code 32 41 00 20", &with_byte(a(), 2, 0x00));
-    validate("A code 32 41 20 21", &with_byte(a(), 3, 0x21));
+    codes();
+    order_settings();
     create("reclen 15", 60, reclen(15));
     create("reclen 15 in 480 bytes", 480, reclen(15));
     create("reclen 16", 64, reclen(16));
@@ -106,7 +117,7 @@ pub fn settings() {
         ("gex", 14, &[9, 10, 20, 21]),
     ];
     for (field, word, values) in fields {
-        values.iter().for_each(|&value| setting(field, word, value));
+        values.iter().for_each(|&value| setting(Order::Little, field, word, value));
     }
     first_of_two();
     stored_counts();
@@ -292,8 +303,8 @@ fn starts() {
     open("A 3 nextword 11", &with4(a(), 11, 11), 3);
 }
 
-/// File A with an Integer*8 at a word of entry 1.
-fn with_field(file: Vec<u8>, word: usize, value: i64) -> Vec<u8> {
+/// A file with an Integer*8 at a word of entry 1, where file A has it.
+pub fn with_field(file: Vec<u8>, word: usize, value: i64) -> Vec<u8> {
     with8(file, ENTRY[0] + word, value)
 }
 
@@ -369,10 +380,11 @@ fn two_sections() {
     section("A 4 identifier 7", &a(), 4, 7);
 }
 
-/// File A with an entry of 11 words behind the first `at` words, and its index that says so.
-fn placed(entry: usize, at: usize) -> Vec<u8> {
-    let mut file = with_byte(with_byte(with_byte(a(), 4 * at, 0x32), 4 * at + 1, 0x20), 4 * at + 2, 0x20);
-    file = with4(with4(with_byte(file, 4 * at + 3, 0x20), at + 2, 1), at + 3, 0);
+/// File A in an order with an entry of 11 words behind the first `at` words, and its index that says so.
+pub fn placed(order: Order, entry: usize, at: usize) -> Vec<u8> {
+    let mut file = a_after(order, 3);
+    file[4 * at..4 * (at + 1)].copy_from_slice(&ENTRY_CODE);
+    file = with4(with4(file, at + 2, 1), at + 3, 0);
     for (word, value) in [(4, 11), (6, 0), (8, 0), (10, entry as i64)] {
         file = with8(file, at + word, value);
     }
@@ -382,6 +394,7 @@ fn placed(entry: usize, at: usize) -> Vec<u8> {
 
 /// Refusal 25.
 pub fn ordering() {
+    let placed = |entry, at| placed(Order::Little, entry, at);
     let nword = |file, entry: usize, value| with8(file, ENTRY[entry - 1] + 4, value);
     check("A 1 nword 25, over the start of 2", &nword(a(), 1, 25));
     check("A 2 nword 16, to the next area", &nword(a(), 2, 16));
@@ -397,7 +410,7 @@ pub fn ordering() {
     check("A 2 ends at the next area", &placed(2, 69));
     check("A 2 ends a word past the next area's start", &placed(2, 70));
     let coded = |entry: usize| with_byte(a(), 4 * ENTRY[entry - 1], 0x31);
-    check("A created", &a_after(0));
+    check("A created", &a_after(Order::Little, 0));
     check("A reclen 15", &with4(a(), 2, 15));
     check("A xnext 7", &with8(a(), 7, 7));
     check("A 2 code 31", &coded(2));
@@ -405,9 +418,11 @@ pub fn ordering() {
     check("A 1 nword 25, 3 code 31", &nword(coded(3), 1, 25));
 }
 
-/// Every call on file A and on each way to damage it.
-pub fn every_call() {
-    let all = |name, file, bytes| crate::lines::every_call(name, file, bytes, 1);
+/// Every call on file A in an order and on each way to damage it.
+pub fn every_call(order: Order) {
+    let a = || a_after(order, 3);
+    let asked = |name: &str, file, bytes, number| every(&named(order, name), file, bytes, number);
+    let all = |name: &str, file, bytes| asked(name, file, bytes, 1);
     all("A", a(), 480);
     all("63 bytes lent", a(), 63);
     all("code 31", with_byte(a(), 0, 0x31), 480);
@@ -419,8 +434,8 @@ pub fn every_call() {
     for (name, word, value) in [("xnext 0", 7, 0), ("nextrec 1", 9, 1), ("aex 1 5", 15, 1)] {
         all(name, with8(a(), word, value), 480);
     }
-    crate::lines::every_call("number 0", a(), 480, 0);
-    crate::lines::every_call("number 4", a(), 480, 4);
+    asked("number 0", a(), 480, 0);
+    asked("number 4", a(), 480, 4);
     all("record 1", with8(a(), INDEX[0] + 1, 1), 480);
     all("entry code 31", with_byte(a(), 4 * ENTRY[0], 0x31), 480);
     all("nsec 65", with4(a(), ENTRY[0] + 3, 65), 480);

@@ -1,14 +1,27 @@
-//! File A of document 01, and files with words written over.
+//! File A of document 01 in both orders, and files with words written over.
 
-use crate::reference::{append, create, Addition, Settings};
+use crate::reference::{append, create, Addition, Order, Settings};
 
 /// The words of file A before its indexes, and before its entries.
 pub const INDEX: [usize; 3] = [20, 24, 80];
 pub const ENTRY: [usize; 3] = [40, 64, 100];
 
-/// Settings with kind 1, vind 2 and flags 0.
+/// Settings in the little order with kind 1, vind 2 and flags 0.
 pub fn settings(reclen: i32, lind: i32, lex1: i32, gex: i32) -> Settings {
-    Settings { reclen, kind: 1, vind: 2, lind, flags: 0, lex1, gex }
+    Settings { order: Order::Little as i32, reclen, kind: 1, vind: 2, lind, flags: 0, lex1, gex }
+}
+
+/// Settings with another order.
+pub fn in_order(order: Order, chosen: Settings) -> Settings {
+    Settings { order: order as i32, ..chosen }
+}
+
+/// The name of a case: it says where the file is in the big order.
+pub fn named(order: Order, name: &str) -> String {
+    match order {
+        Order::Little => name.to_string(),
+        Order::Big => format!("big {name}"),
+    }
 }
 
 /// A file of so many bytes, each of one value, with a first record.
@@ -18,7 +31,7 @@ pub fn created(bytes: usize, value: u8, chosen: Settings) -> Vec<u8> {
     file
 }
 
-/// Words as bytes.
+/// Words as bytes, the least significant first whatever the order of the file that takes them.
 pub fn words(values: &[i32]) -> Vec<u8> {
     values.iter().flat_map(|value| value.to_le_bytes()).collect()
 }
@@ -34,8 +47,8 @@ pub fn after(mut file: Vec<u8>, addition: &Addition) -> Vec<u8> {
     file
 }
 
-/// File A after its first so many appends.
-pub fn a_after(count: usize) -> Vec<u8> {
+/// File A in an order after its first so many appends.
+pub fn a_after(order: Order, count: usize) -> Vec<u8> {
     let first = Addition {
         version: 1,
         index: words(&[101]),
@@ -45,23 +58,40 @@ pub fn a_after(count: usize) -> Vec<u8> {
         data: words(&[21, 22, 23, 24, 25]),
     };
     let additions = [first, bare(&[102]), bare(&[103])];
-    additions[..count].iter().fold(created(480, 0xee, settings(20, 4, 2, 20)), after)
+    additions[..count].iter().fold(created(480, 0xee, in_order(order, settings(20, 4, 2, 20))), after)
 }
 
 /// File A.
 pub fn a() -> Vec<u8> {
-    a_after(3)
+    a_after(Order::Little, 3)
+}
+
+/// File A in the big order.
+pub fn big_a() -> Vec<u8> {
+    a_after(Order::Big, 3)
+}
+
+/// The order in which numbers are written over a file: big where the second byte of its code is 42, also in a code that
+/// is neither.
+fn order_of(file: &[u8]) -> Order {
+    if file[1] == 0x42 {
+        Order::Big
+    } else {
+        Order::Little
+    }
 }
 
 /// A file with an Integer*4 at a word, counted from 1 at the file's start.
 pub fn with4(mut file: Vec<u8>, word: usize, value: i32) -> Vec<u8> {
-    file[4 * (word - 1)..4 * word].copy_from_slice(&value.to_le_bytes());
+    let bytes = order_of(&file).bytes4(value);
+    file[4 * (word - 1)..4 * word].copy_from_slice(&bytes);
     file
 }
 
 /// A file with an Integer*8 at a word and the next.
 pub fn with8(mut file: Vec<u8>, word: usize, value: i64) -> Vec<u8> {
-    file[4 * (word - 1)..4 * (word + 1)].copy_from_slice(&value.to_le_bytes());
+    let bytes = order_of(&file).bytes8(value);
+    file[4 * (word - 1)..4 * (word + 1)].copy_from_slice(&bytes);
     file
 }
 

@@ -40,9 +40,10 @@ pub fn describe(name: &str, file: &[u8]) {
     let told = reference::validate(file).map_or_else(refused, |d| {
         let mut aex: Vec<String> = d.aex.iter().map(i128::to_string).collect();
         aex.resize(16, "0".to_string());
-        let settings = format!("reclen {} kind {} vind {} lind {} flags {}", d.reclen, d.kind, d.vind, d.lind, d.flags);
+        let form = format!("order {} reclen {} kind {} vind {}", d.order as i32, d.reclen, d.kind, d.vind);
+        let index = format!("lind {} flags {}", d.lind, d.flags);
         let next = format!("xnext {} nextrec {} nextword {}", d.xnext, d.nextrec, d.nextword);
-        format!("{settings} {next} lex1 {} nex {} gex {} aex {}", d.lex1, d.nex, d.gex, aex.join(" "))
+        format!("{form} {index} {next} lex1 {} nex {} gex {} aex {}", d.lex1, d.nex, d.gex, aex.join(" "))
     });
     println!("validate {name}: {told}");
 }

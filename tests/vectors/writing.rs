@@ -1,8 +1,8 @@
 //! The cases of append, and P8 and P9, which need large files.
 
-use crate::files::{a, a_after, bare, created, settings, with4, with8, words};
+use crate::files::{a, a_after, bare, created, in_order, named, settings, with4, with8, words};
 use crate::lines::{append, describe, extension, open, section, validate};
-use crate::reference::Addition;
+use crate::reference::{Addition, Order};
 
 /// P8 and P9, in files with room for their index areas.
 pub fn limits() {
@@ -21,63 +21,91 @@ pub fn limits() {
     file = with8(file, 7, 28674);
     validate("P8 nex 3 xnext 28674", &file);
     validate("P8 nex 4", &with4(file, 13, 4));
-    entries();
+    Order::BOTH.into_iter().for_each(entries);
 }
 
 /// P9: 65,536 entries in 16 extensions, each with an area of 268 records.
-fn entries() {
-    let mut file = with4(created(4289 * 184, 0, settings(46, 3, 4096, 10)), 13, 16);
+fn entries(order: Order) {
+    let p9 = named(order, "P9");
+    let mut file = with4(created(4289 * 184, 0, in_order(order, settings(46, 3, 4096, 10))), 13, 16);
     let whole = file.len();
     file = with8(with8(file, 7, 65537), 9, 4290);
     for k in 0..16 {
         file = with8(file, 15 + 2 * k, 2 + 268 * k as i64);
     }
-    describe("P9", &file);
-    extension("P9 16", &file, 16);
-    append("P9 entry 65537", &mut file, whole, &bare(&[]));
-    validate("P9 xnext 65538", &with8(file, 7, 65538));
+    describe(&p9, &file);
+    extension(&format!("{p9} 16"), &file, 16);
+    append(&format!("{p9} entry 65537"), &mut file, whole, &bare(&[]));
+    validate(&format!("{p9} xnext 65538"), &with8(file, 7, 65538));
 }
 
-/// Appends index bytes and nothing else to file A after so many appends.
-fn index_bytes(name: &str, count: usize, index: Vec<u8>) {
-    append(name, &mut a_after(count), 480, &Addition { version: 1, index, ..Addition::default() });
+/// Appends index bytes and nothing else to file A in an order after so many appends.
+fn index_bytes(order: Order, name: &str, count: usize, index: Vec<u8>) {
+    let addition = Addition { version: 1, index, ..Addition::default() };
+    append(&named(order, name), &mut a_after(order, count), 480, &addition);
+}
+
+/// Appends sections to file A in an order after (1).
+fn sections_in(order: Order, name: &str, ids: &[i32], lengths: &[i64], bytes: usize) {
+    let addition = Addition { ids: ids.to_vec(), lengths: lengths.to_vec(), sections: vec![0; bytes], ..bare(&[9]) };
+    append(&named(order, name), &mut a_after(order, 1), 480, &addition);
 }
 
 /// Appends sections to file A after (1).
 fn sections(name: &str, ids: &[i32], lengths: &[i64], bytes: usize) {
-    let addition = Addition { ids: ids.to_vec(), lengths: lengths.to_vec(), sections: vec![0; bytes], ..bare(&[9]) };
-    append(name, &mut a_after(1), 480, &addition);
+    sections_in(Order::Little, name, ids, lengths, bytes);
 }
 
-/// Appends data to the first bytes of file A after so many appends.
-fn data(name: &str, count: usize, bytes: usize, data: usize) {
-    append(name, &mut a_after(count), bytes, &Addition { data: vec![0; data], ..bare(&[9]) });
+/// Appends data to the first bytes of file A in an order after so many appends.
+fn data(order: Order, name: &str, count: usize, bytes: usize, data: usize) {
+    let addition = Addition { data: vec![0; data], ..bare(&[9]) };
+    append(&named(order, name), &mut a_after(order, count), bytes, &addition);
+}
+
+/// The appends of file A in an order, and one more.
+fn appends_of_a(order: Order) {
+    let first = Addition { ids: vec![7], lengths: vec![3], sections: vec![0; 12], data: vec![0; 20], ..bare(&[101]) };
+    append(&named(order, "A (1)"), &mut a_after(order, 0), 480, &first);
+    for (name, count) in [("A (2)", 1), ("A (3)", 2), ("A (4)", 3)] {
+        index_bytes(order, name, count, words(&[101 + count as i32]));
+    }
 }
 
 /// Refusals 21 to 24.
 pub fn appending() {
-    let first = Addition { ids: vec![7], lengths: vec![3], sections: vec![0; 12], data: vec![0; 20], ..bare(&[101]) };
-    append("A (1)", &mut a_after(0), 480, &first);
-    index_bytes("A (2)", 1, words(&[102]));
-    index_bytes("A (3)", 2, words(&[103]));
-    index_bytes("A (4)", 3, words(&[104]));
+    appends_of_a(Order::Little);
     for (name, bytes) in [("no", 0), ("3", 3), ("4", 4), ("5", 5), ("8", 8)] {
-        index_bytes(&format!("{name} index bytes"), 1, vec![0; bytes]);
+        index_bytes(Order::Little, &format!("{name} index bytes"), 1, vec![0; bytes]);
     }
     identifiers();
     lengths();
     for (name, bytes) in
         [("no", 0), ("1 byte of", 1), ("2 bytes of", 2), ("3 bytes of", 3), ("4 bytes of", 4), ("5 bytes of", 5)]
     {
-        data(&format!("{name} data"), 1, 480, bytes);
+        data(Order::Little, &format!("{name} data"), 1, 480, bytes);
     }
     many();
-    extensions();
-    space();
+    extensions(Order::Little);
+    space(Order::Little);
     let mut file = a();
     append("index bytes and lengths", &mut file, 480, &Addition { ids: vec![7], lengths: vec![0], ..bare(&[]) });
     let both = Addition { ids: vec![7], lengths: vec![0], data: vec![0; 40], ..bare(&[0]) };
     append("lengths and space", &mut file, 480, &both);
+}
+
+/// Refusals 21 to 24 by files in the big order.
+pub fn big_appending() {
+    let order = Order::Big;
+    appends_of_a(order);
+    index_bytes(order, "no index bytes", 1, vec![]);
+    index_bytes(order, "5 index bytes", 1, vec![0; 5]);
+    sections_in(order, "identifiers 0 -1", &[0, -1], &[1, 1], 8);
+    sections_in(order, "identifiers 7 7", &[7, 7], &[1, 1], 8);
+    sections_in(order, "length 0", &[7], &[0], 0);
+    sections_in(order, "length 1 * 2^32", &[7], &[1 << 32], 4);
+    data(order, "3 bytes of data", 1, 480, 3);
+    extensions(order);
+    space(order);
 }
 
 /// Refusal 22 by identifiers and counts.
@@ -132,23 +160,23 @@ fn many() {
 }
 
 /// Refusal 23: reclen 16 has room for one extension and reclen 18 for two, each of one entry.
-fn extensions() {
+fn extensions(order: Order) {
     for (reclen, bytes, appends) in [(16, 320, 2), (18, 360, 3)] {
-        let mut file = created(bytes, 0, settings(reclen, 4, 1, 10));
+        let mut file = created(bytes, 0, in_order(order, settings(reclen, 4, 1, 10)));
         for k in 1..=appends {
-            append(&format!("reclen {reclen} ({k})"), &mut file, bytes, &bare(&[9]));
+            append(&named(order, &format!("reclen {reclen} ({k})")), &mut file, bytes, &bare(&[9]));
         }
     }
 }
 
 /// Refusal 24.
-fn space() {
-    data("45 words of data to the end", 1, 480, 180);
-    data("46 words of data past the end", 1, 480, 184);
-    data("new area, 9 words of data to the end", 2, 480, 36);
-    data("new area, 10 words of data past the end", 2, 480, 40);
-    data("P5", 2, 400, 0);
-    data("one record lent", 0, 80, 0);
-    data("two records lent, a new area fills them", 0, 160, 0);
-    data("three records lent", 0, 240, 0);
+fn space(order: Order) {
+    data(order, "45 words of data to the end", 1, 480, 180);
+    data(order, "46 words of data past the end", 1, 480, 184);
+    data(order, "new area, 9 words of data to the end", 2, 480, 36);
+    data(order, "new area, 10 words of data past the end", 2, 480, 40);
+    data(order, "P5", 2, 400, 0);
+    data(order, "one record lent", 0, 80, 0);
+    data(order, "two records lent, a new area fills them", 0, 160, 0);
+    data(order, "three records lent", 0, 240, 0);
 }

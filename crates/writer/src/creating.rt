@@ -12,7 +12,7 @@ ghost use Rattle.descriptor.specs.Bounds.{Narrow};
 ghost use Rattle.fields.specs.FieldWrites.{firstWritten};
 ghost use Rattle.writer.specs.Creation.{creationRefusal, Creates};
 
-// The refusal of a creation with these numbers: 1, then 3 to 8.
+// The refusal of a creation with these settings: the first rule of 1 to 8 that is broken, or 0.
 fn creation_refusal(bytes: u64, settings: Settings) -> u32
     ensures { λ r. ⌜ Answers (creationRefusal bytes settings) r ⌝ }
 {

@@ -68,11 +68,11 @@ module _ (file : List ℕ) {d : DescriptorNumbers} {addresses : List RecordNumbe
 
   -- the file as its index left it, before the counts are written
   abbrev pub indexed : List ℕ
-  indexed = writes (entryWritten (areaWritten file d) d h) (slotWrites slot (placeOf (d .reclen) (entryStart d)) (h .index))
+  indexed = writes (entryWritten (areaWritten file d) d h) (slotWrites (d .order) slot (placeOf (d .reclen) (entryStart d)) (h .index))
 
   -- the file that is left is this one with the counts written
   pub counted-last : new ≡ writes indexed (countWrites then)
-  unfolding appended indexWritten
+  unfolding appended indexWritten numbersAfter
   counted-last = refl
 
   -- ---- the numbers

@@ -1,6 +1,6 @@
 -- Validating a file that `create` made gives the numbers of a new file, and no addresses. Assumes nothing.
 use Prim.Native.Nat.{ℕ, _+_, _^_, _≤_, _<_}
-use mathlib.Core.Path.{_≡_, refl, sym, ap, _∙_}
+use mathlib.Core.Path.{_≡_, refl, sym, ap, _∙_, subst}
 use mathlib.Core.List.{List, _++_}
 use native.Mathlib.Omega.{arith}
 use borrow.Author.Tests.{leb-true, le-leb}
@@ -11,16 +11,16 @@ use Rattle.image.specs.Image.{part}
 use Rattle.image.specs.Writes.{Write, put, writes, Follows}
 use Rattle.image.proofs.Writes.{length-writes, writes-append, BehindOf, follow-read}
 use Rattle.words.specs.Word.{numeral, bitsAt}
-use Rattle.words.specs.Code.{sameBytes}
 use Rattle.words.proofs.Number.{length-numeral}
 use Rattle.words.proofs.Access.{bits-follow}
-use Rattle.words.proofs.Codes.{same-self}
 use Rattle.geometry.specs.declared.units.RecordNumber.{RecordNumber}
 use Rattle.geometry.specs.Units.{positionOf, firstRecordOffsetOf}
 use Rattle.descriptor.specs.declared.numbers.Settings.{Settings}
 use Rattle.descriptor.specs.declared.numbers.DescriptorNumbers.{DescriptorNumbers}
-use Rattle.layout.specs.FirstRecordWords.{fileCode, reclenWord, kindWord, vindWord, lindWord, flagsWord, xnextWord, nextrecWord, nextwordWord, lex1Word, nexWord, gexWord}
-use Rattle.descriptor.specs.FirstRecord.{fileCodeOf, field4, field8, numbersOf, createdOf, addressesOf, freeOf}
+use Rattle.layout.specs.FirstRecordWords.{reclenWord, kindWord, vindWord, lindWord, flagsWord, xnextWord, nextrecWord, nextwordWord, lex1Word, nexWord, gexWord}
+use Rattle.layout.specs.FileCode.{fileCode, orderSaid, fileCodeOf, byteOrderOf}
+use Rattle.layout.proofs.FileCodes.{length-code, order-coded}
+use Rattle.descriptor.specs.FirstRecord.{field4, field8, numbersOf, createdOf, addressesOf, freeOf}
 use Rattle.descriptor.specs.Areas.{areaAfter, areasStart, areasEnd}
 use Rattle.descriptor.specs.Rules.{settingRules, settingRefusal, creationRules, entriesFit}
 use Rattle.descriptor.specs.Bounds.{Narrow, Admitted}
@@ -29,7 +29,7 @@ use Rattle.descriptor.proofs.Passed.{settled, lent}
 use Rattle.fields.specs.FieldWrites.{settingWrites, countWrites, growthWrites, firstWritten}
 use Rattle.writer.specs.Creation.{creationRefusal, createdFile}
 use Rattle.writer.proofs.Created.{created-fits}
-use Rattle.descriptor.proofs.Admitting.{apt, validated}
+use Rattle.descriptor.proofs.Admitting.{apt, order-known, validated}
 use Rattle.written.proofs.ReadBack.{Validates}
 
 -- the addresses of a new file: none
@@ -42,7 +42,7 @@ module _ (bytes : ℕ) (s : Settings) (e : creationRefusal bytes s ≡ 0) where
   abbrev d : DescriptorNumbers
   d = createdOf s
 
-  -- an accepted creation passed rule 1, and rules 3 to 8
+  -- an accepted creation passed rules 1 to 8
   passed : (64 ≤ bytes) × (settingRefusal bytes d ≡ 0)
   unfolding creationRefusal settingRefusal
   passed =
@@ -75,7 +75,7 @@ firstWrites d = settingWrites d ++ (countWrites d ++ growthWrites d)
 
 -- they follow one another from the file's start
 pub first-follows : (d : DescriptorNumbers) → Follows 0 (firstWrites d)
-first-follows d = simp length-numeral (omega arith)
+first-follows d = simp (length-numeral, length-code) (omega arith)
 
 module _ (file : List ℕ) (d : DescriptorNumbers) where
   -- made in three parts, or in one
@@ -90,22 +90,30 @@ module _ (file : List ℕ) (d : DescriptorNumbers) where
 
   module _ (long : 64 ≤ length file) where
     -- the code
-    code-first : fileCodeOf (firstWritten file d) ≡ fileCode
+    code-first : fileCodeOf (firstWritten file d) ≡ fileCode (d .order)
     unfolding fileCodeOf
     code-first =
-        ap (λ (f : List ℕ). part f 0 4) first-one ∙ follow-read file 0 (firstWrites d) (first-follows d) 0 0 fileCode refl (omega arith)
+        let four = length-code (d .order) in
+        ap (λ (f : List ℕ). part f 0 4) first-one
+        ∙ subst (λ (n : ℕ). part (writes file (firstWrites d)) 0 n ≡ fileCode (d .order)) four
+        (follow-read file 0 (firstWrites d) (first-follows d) 0 0 (fileCode (d .order)) refl (omega (arith, four)))
+
+    -- it says the order of the numbers
+    order-first : d .order .0 ≤ 1 → byteOrderOf (firstWritten file d) ≡ d .order
+    order-first h = ap orderSaid code-first ∙ order-coded (d .order) h
 
     -- a field of one word or two
-    field-first : (w : Width) (k at u : ℕ) → BehindOf k (put at (numeral (bytes w) u)) (firstWrites d) → u < 2 ^ bits w → at + bytes w ≤ 64
-        → bitsAt w (firstWritten file d) at ≡ u
+    field-first : (w : Width) (k at u : ℕ) → BehindOf k (put at (numeral (d .order) (bytes w) u)) (firstWrites d) → u < 2 ^ bits w → at + bytes w ≤ 64
+        → bitsAt (d .order) w (firstWritten file d) at ≡ u
     field-first w k at u e f l =
-        ap (λ (g : List ℕ). bitsAt w g at) first-one ∙ bits-follow w file 0 (firstWrites d) (first-follows d) k at u e f (omega arith)
+        ap (λ (g : List ℕ). bitsAt (d .order) w g at) first-one ∙ bits-follow (d .order) w file 0 (firstWrites d) (first-follows d) k at u e f (omega arith)
 
     -- all of them
-    numbers-first : Narrow d → d .xnext .0 < 2 ^ 64 → d .nextrec .0 < 2 ^ 64 → numbersOf (firstWritten file d) ≡ d
+    numbers-first : d .order .0 ≤ 1 → Narrow d → d .xnext .0 < 2 ^ 64 → d .nextrec .0 < 2 ^ 64 → numbersOf (firstWritten file d) ≡ d
     unfolding numbersOf field4 field8
-    numbers-first t x r =
+    numbers-first o t x r =
         rw (
+          order-first o,
           field-first w32 1 (firstRecordOffsetOf reclenWord) (d .reclen) refl (t .reclen) (omega arith),
           field-first w32 2 (firstRecordOffsetOf kindWord) (d .kind) refl (t .kind) (omega arith),
           field-first w32 3 (firstRecordOffsetOf vindWord) (d .vind) refl (t .vind) (omega arith),
@@ -134,8 +142,7 @@ module _ (file : List ℕ) (s : Settings) (e : creationRefusal (length file) s �
       let same = length-first file (createdOf s) in
       let p = passed (length file) s e in
       rw created-written
-      (validated (firstWritten file (createdOf s)) (createdOf s) noAddresses (numbers-first file (createdOf s) (p .0) (created-fits (length file) s e .0) (omega arith) (omega arith)) refl
+      (validated (firstWritten file (createdOf s)) (createdOf s) noAddresses (numbers-first file (createdOf s) (p .0) (order-known (createdOf s) (apt (length file) (createdOf s) (p .1))) (created-fits (length file) s e .0) (omega arith) (omega arith)) refl
       (omega (arith, same, p .0))
-      (ap (λ (l : List ℕ). sameBytes l fileCode) (code-first file (createdOf s) (p .0)) ∙ same-self fileCode)
       (apt (length file) (createdOf s) (p .1))
       (rw same (created-admitted (length file) s e)))

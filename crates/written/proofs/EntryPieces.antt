@@ -13,6 +13,7 @@ use Rattle.words.proofs.Ranges.{atLeast-row}
 use Rattle.words.proofs.Runs.{run-all}
 use Rattle.geometry.specs.declared.units.RecordNumber.{RecordNumber}
 use Rattle.descriptor.specs.declared.numbers.DescriptorNumbers.{DescriptorNumbers}
+use Rattle.layout.specs.FileCode.{byteOrderOf}
 use Rattle.layout.specs.EntryWords.{firstContent}
 use Rattle.pieces.specs.declared.contents.Piece.{Piece}
 use Rattle.pieces.specs.EntryDescriptor.{sectionOf, dataOf}
@@ -26,7 +27,7 @@ use Rattle.storing.proofs.Lengths.{sum-rise, some-words}
 use Rattle.written.proofs.AppendLeaves.{new, left}
 use Rattle.written.proofs.EntryRead.{adata-some, adata-new, ldata-new, words, before, long, words-few, length-new, address-new}
 
-module _ (file : List ℕ) {d : DescriptorNumbers} {addresses : List RecordNumber} {h : Handed} (x : Accepted (length file) d addresses h) where
+module _ (file : List ℕ) {d : DescriptorNumbers} {addresses : List RecordNumber} {h : Handed} (x : Accepted (length file) d addresses h) (o : d .order ≡ byteOrderOf file) where
   abbrev start : ℕ
   start = entryStart d
 
@@ -34,25 +35,25 @@ module _ (file : List ℕ) {d : DescriptorNumbers} {addresses : List RecordNumbe
 
   -- where section i stands, counted from 0: behind those before it
   abbrev pub piece : (i : ℕ) → i < nsecIn h → Piece
-  piece i l = record { address = record { 0 = firstContent (nsecIn h) .0 + before file x i l }; words = words file x i l }
+  piece i l = record { address = record { 0 = firstContent (nsecIn h) .0 + before file x o i l }; words = words file x o i l }
 
   -- so its place is read
   pub section-new : (i : ℕ) (l : i < nsecIn h) → sectionOf (new file x) start (nsecIn h) i ≡ piece i l
   unfolding sectionOf
-  section-new i l = ap₂ (λ (a n : ℕ). record { address = record { 0 = a }; words = n }) (address-new file x i l) (length-new file x i l)
+  section-new i l = ap₂ (λ (a n : ℕ). record { address = record { 0 = a }; words = n }) (address-new file x o i l) (length-new file x o i l)
 
   -- rule 18 of section i
   section-within : (i : ℕ) (l : i < nsecIn h) → sectionWithin (new file x) start (nsecIn h) (nwordIn h) i ≡ true
   unfolding pieceWithin
   section-within i l =
       let first = firstContent (nsecIn h) .0 in
-      let few = words-few file x i l in
+      let few = words-few file x o i l in
       let small = left file x .small in
       rw (
         section-new i l,
-        atLeast-row 1 (words file x i l) (some-words (getD (h .lengths) i (pos 0)) (long file x i l)) (omega arith),
-        atLeast-row first (first + before file x i l) (omega arith) (omega arith),
-        le-leb (first + before file x i l + words file x i l) (nwordIn h + 1) (omega arith),
+        atLeast-row 1 (words file x o i l) (some-words (getD (h .lengths) i (pos 0)) (long file x o i l)) (omega arith),
+        atLeast-row first (first + before file x o i l) (omega arith) (omega arith),
+        le-leb (first + before file x o i l + words file x o i l) (nwordIn h + 1) (omega arith),
       )
 
   -- they stand within the entry
@@ -84,7 +85,7 @@ module _ (file : List ℕ) {d : DescriptorNumbers} {addresses : List RecordNumbe
   -- so its place is read
   pub data-new : dataOf (new file x) start ≡ array
   unfolding dataOf
-  data-new = ap₂ (λ (a n : ℕ). record { address = record { 0 = a }; words = n }) (adata-new file x) (ldata-new file x)
+  data-new = ap₂ (λ (a n : ℕ). record { address = record { 0 = a }; words = n }) (adata-new file x o) (ldata-new file x o)
 
   -- it stands within the entry
   pub data-within : dataWithin (nsecIn h) (nwordIn h) array ≡ true
@@ -95,7 +96,7 @@ module _ (file : List ℕ) {d : DescriptorNumbers} {addresses : List RecordNumbe
       (λ q. rw q)
       (λ q. rw (
         q,
-        adata-some file x (eqb-false (ldataIn h) 0 q),
+        adata-some file x o (eqb-false (ldataIn h) 0 q),
         atLeast-row (firstContent (nsecIn h) .0) at (omega arith) (omega (arith, left file x .small)),
         le-leb (at + ldataIn h) (nwordIn h + 1) (omega arith),
       ))
@@ -106,4 +107,4 @@ module _ (file : List ℕ) {d : DescriptorNumbers} {addresses : List RecordNumbe
   data-apart =
       either (eqb (ldataIn h) 0)
       (λ q. rw q)
-      (λ q. rw q (behind-apart array (nsecIn h) (omega arith) (λ j g m. omega (arith, adata-some file x (eqb-false (ldataIn h) 0 q), words-few file x j g))))
+      (λ q. rw q (behind-apart array (nsecIn h) (omega arith) (λ j g m. omega (arith, adata-some file x o (eqb-false (ldataIn h) 0 q), words-few file x o j g))))

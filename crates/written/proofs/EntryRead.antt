@@ -16,7 +16,8 @@ use Rattle.image.specs.Image.{part}
 use Rattle.image.specs.Writes.{Write, put, writes}
 use Rattle.image.proofs.Part.{part-part}
 use Rattle.image.proofs.Writes.{BehindOf, follow-read}
-use Rattle.words.specs.Word.{numeral, integer4, integer8, bitsAt, bitsOf, signedNumeral}
+use Rattle.words.specs.declared.order.ByteOrder.{ByteOrder}
+use Rattle.words.specs.Word.{numeral, integer4, integer8, bitsAt, signedAt, bitsOf, signedNumeral}
 use Rattle.words.specs.Range.{atLeast}
 use Rattle.words.proofs.Number.{length-numeral}
 use Rattle.words.proofs.Access.{bits-of, value-of}
@@ -26,6 +27,7 @@ use Rattle.geometry.specs.declared.units.RecordNumber.{RecordNumber}
 use Rattle.geometry.specs.declared.units.EntryAddress.{EntryAddress}
 use Rattle.descriptor.specs.declared.numbers.DescriptorNumbers.{DescriptorNumbers}
 use Rattle.descriptor.proofs.Admitting.{xnext-small}
+use Rattle.layout.specs.FileCode.{byteOrderOf}
 use Rattle.layout.specs.EntryWords.{entryCode, entryCodeWord, versionWord, nsecWord, nwordWord, adataWord, ldataWord, xnumWord, identifierWord, lengthWord, addressWord, firstContent}
 use Rattle.pieces.specs.EntryDescriptor.{wordOffset, word4, word8, entryCodeOf, versionOf, nsecOf, nwordOf, adataOf, ldataOf, xnumOf, identifierAt, lengthAt, addressAt}
 use Rattle.storing.specs.Handed.{Handed, wordsOf, sumOf, nsecIn, ldataIn, nwordIn}
@@ -39,13 +41,14 @@ use Rattle.storing.proofs.Accepting.{value-bytes}
 use Rattle.written.proofs.AppendLeaves.{new, end, left, length-area}
 use Rattle.written.proofs.Stored.{table-item, entryWrites, entry-follows, entry-one}
 use Rattle.written.proofs.Frame.{entry-left}
+use Rattle.written.proofs.FirstRecordAfter.{order-new}
 
-module _ (file : List ℕ) {d : DescriptorNumbers} {addresses : List RecordNumber} {h : Handed} (x : Accepted (length file) d addresses h) where
+module _ (file : List ℕ) {d : DescriptorNumbers} {addresses : List RecordNumber} {h : Handed} (x : Accepted (length file) d addresses h) (o : d .order ≡ byteOrderOf file) where
   abbrev start : ℕ
   start = entryStart d
 
   abbrev ws : List Write
-  ws = entryWrites start h (d .xnext)
+  ws = entryWrites (d .order) start h (d .xnext)
 
   -- ---- what was written is read
 
@@ -54,14 +57,14 @@ module _ (file : List ℕ) {d : DescriptorNumbers} {addresses : List RecordNumbe
   unfolding entryWritten
   same a n l =
       entry-left file x a n (inr (omega (arith, left file x, x .admitted .settled .reclen-low))) (inr (omega (arith, left file x)))
-      ∙ ap (λ (f : List ℕ). part f a n) (entry-one start h (d .xnext) (areaWritten file d))
+      ∙ ap (λ (f : List ℕ). part f a n) (entry-one (d .order) start h (d .xnext) (areaWritten file d))
 
   -- what the write behind k others wrote
   read : (k : ℕ) (a : EntryAddress) (ys : List ℕ) → BehindOf k (put (wordOffset start a) ys) ws → wordOffset start a + length ys ≤ 4 * end file x
       → part (new file x) (wordOffset start a) (length ys) ≡ ys
   read k a ys e l =
       same (wordOffset start a) (length ys) (omega arith)
-      ∙ follow-read (areaWritten file d) (4 * start) ws (entry-follows start h (d .xnext) (x .fitting .pairs) (x .fitting .sections)) k (wordOffset start a) ys e
+      ∙ follow-read (areaWritten file d) (4 * start) ws (entry-follows (d .order) start h (d .xnext) (x .fitting .pairs) (x .fitting .sections)) k (wordOffset start a) ys e
       (omega (arith, left file x, length-area file d))
 
   -- a part of it
@@ -71,20 +74,23 @@ module _ (file : List ℕ) {d : DescriptorNumbers} {addresses : List RecordNumbe
       sym (part-part (new file x) (wordOffset start a) (length ys) b m c g q) ∙ ap (λ (xs : List ℕ). part xs b m) (read k a ys e l)
 
   -- a number
-  word-read : (w : Width) (k : ℕ) (a : EntryAddress) (u : ℕ) → BehindOf k (put (wordOffset start a) (numeral (bytes w) u)) ws → u < 2 ^ bits w → wordOffset start a + bytes w ≤ 4 * end file x
-      → bitsAt w (new file x) (wordOffset start a) ≡ u
-  word-read w k a u e f l = bits-of w (new file x) (wordOffset start a) u f (read k a (numeral (bytes w) u) e (omega (arith, length-numeral (bytes w) u)))
+  word-read : (w : Width) (k : ℕ) (a : EntryAddress) (u : ℕ) → BehindOf k (put (wordOffset start a) (numeral (d .order) (bytes w) u)) ws → u < 2 ^ bits w → wordOffset start a + bytes w ≤ 4 * end file x
+      → bitsAt (byteOrderOf (new file x)) w (new file x) (wordOffset start a) ≡ u
+  word-read w k a u e f l =
+      ap (λ (p : ByteOrder). bitsAt p w (new file x) (wordOffset start a)) (order-new file x o)
+      ∙ bits-of (d .order) w (new file x) (wordOffset start a) u f (read k a (numeral (d .order) (bytes w) u) e (omega (arith, length-numeral (d .order) (bytes w) u)))
 
   -- number i of a table
-  item-read : (w : Width) (u : ℕ → ℤ → ℕ) {table : ℕ → List ℤ → List ℕ} → Table (bytes w) (λ a z. numeral (bytes w) (u a z)) table
+  item-read : (w : Width) (u : ℕ → ℤ → ℕ) {table : ℕ → List ℤ → List ℕ} → Table (bytes w) (λ a z. numeral (d .order) (bytes w) (u a z)) table
       → (k : ℕ) (first : EntryAddress) (a : ℕ) (zs : List ℤ) (i : ℕ) (at : EntryAddress) → let v = u (a + sumOf (take i zs)) (getD zs i (pos 0)) in
       BehindOf k (put (wordOffset start first) (table a zs)) ws → i < length zs → wordOffset start first + bytes w * length zs ≤ 4 * end file x
-      → bytes w * i + bytes w ≤ bytes w * length zs → wordOffset start at ≡ wordOffset start first + bytes w * i → v < 2 ^ bits w → bitsAt w (new file x) (wordOffset start at) ≡ v
+      → bytes w * i + bytes w ≤ bytes w * length zs → wordOffset start at ≡ wordOffset start first + bytes w * i → v < 2 ^ bits w → bitsAt (byteOrderOf (new file x)) w (new file x) (wordOffset start at) ≡ v
   item-read w u {table} t k first a zs i at e few room one place f =
       let v = u (a + sumOf (take i zs)) (getD zs i (pos 0)) in
       let n = table-length t a zs in
-      bits-of w (new file x) (wordOffset start at) v f
-      (rw (length-numeral (bytes w) v) (inside k first (table a zs) e (omega (arith, n)) (bytes w * i) (bytes w) (wordOffset start at) (omega (arith, n)) place ∙ table-item t a zs i few))
+      ap (λ (p : ByteOrder). bitsAt p w (new file x) (wordOffset start at)) (order-new file x o)
+      ∙ bits-of (d .order) w (new file x) (wordOffset start at) v f
+      (rw (length-numeral (d .order) (bytes w) v) (inside k first (table a zs) e (omega (arith, n)) (bytes w * i) (bytes w) (wordOffset start at) (omega (arith, n)) place ∙ table-item t a zs i few))
 
   -- ---- words 1 to 11
 
@@ -97,8 +103,9 @@ module _ (file : List ℕ) {d : DescriptorNumbers} {addresses : List RecordNumbe
   pub version-new : SFits integer4 (h .version) → versionOf (new file x) start ≡ h .version
   unfolding word4 headFrom
   version-new f =
-      value-of integer4 (new file x) (wordOffset start versionWord) (h .version) f
-      (read 1 versionWord (signedNumeral integer4 (h .version)) refl (omega (arith, length-numeral 4 (bitsOf integer4 (h .version)))))
+      ap (λ (p : ByteOrder). signedAt p integer4 (new file x) (wordOffset start versionWord)) (order-new file x o)
+      ∙ value-of (d .order) integer4 (new file x) (wordOffset start versionWord) (h .version) f
+      (read 1 versionWord (signedNumeral (d .order) integer4 (h .version)) refl (omega (arith, length-numeral (d .order) 4 (bitsOf integer4 (h .version)))))
 
   -- nsec
   pub nsec-new : nsecOf (new file x) start ≡ nsecIn h
@@ -161,7 +168,7 @@ module _ (file : List ℕ) {d : DescriptorNumbers} {addresses : List RecordNumbe
     pub identifier-new : SFits integer4 (getD (h .ids) i (pos 0)) → identifierAt (new file x) start i ≡ getD (h .ids) i (pos 0)
     unfolding word4
     identifier-new f =
-        rw (item-read integer4 (λ a z. bitsOf integer4 z) (integer-table integer4) 7 (identifierWord 0) 0 (h .ids) i (identifierWord i) refl l (omega arith) (omega arith) (omega arith) (fits-ofZ f .fits))
+        rw (item-read integer4 (λ a z. bitsOf integer4 z) (integer-table (d .order) integer4) 7 (identifierWord 0) 0 (h .ids) i (identifierWord i) refl l (omega arith) (omega arith) (omega arith) (fits-ofZ f .fits))
         (signed-bits integer4 (getD (h .ids) i (pos 0)) f)
 
     -- its length
@@ -170,7 +177,7 @@ module _ (file : List ℕ) {d : DescriptorNumbers} {addresses : List RecordNumbe
     length-new =
         let pairs = x .fitting .pairs in
         let is = counted (getD (h .lengths) i (pos 0)) long in
-        item-read integer8 (λ a z. bitsOf integer8 z) (integer-table integer8) 8 (lengthWord (nsecIn h) 0) 0 (h .lengths) i (lengthWord (nsecIn h) i) refl (omega arith) (omega arith) (omega arith) (omega arith)
+        item-read integer8 (λ a z. bitsOf integer8 z) (integer-table (d .order) integer8) 8 (lengthWord (nsecIn h) 0) 0 (h .lengths) i (lengthWord (nsecIn h) i) refl (omega arith) (omega arith) (omega arith) (omega arith)
         (omega (arith, words-few, left file x .small))
         ∙ is
 
@@ -179,7 +186,7 @@ module _ (file : List ℕ) {d : DescriptorNumbers} {addresses : List RecordNumbe
     unfolding word8
     address-new =
         let pairs = x .fitting .pairs in
-        item-read integer8 (λ a z. a) address-table 9 (addressWord (nsecIn h) 0) (firstContent (nsecIn h) .0) (h .lengths) i (addressWord (nsecIn h) i) refl (omega arith) (omega arith) (omega arith) (omega arith)
+        item-read integer8 (λ a z. a) (address-table (d .order)) 9 (addressWord (nsecIn h) 0) (firstContent (nsecIn h) .0) (h .lengths) i (addressWord (nsecIn h) i) refl (omega arith) (omega arith) (omega arith) (omega arith)
         (omega (arith, words-few, left file x .small))
 
     -- its bytes

@@ -11,6 +11,7 @@ use mir.Val.{bits, bytes}
 use Rattle.image.specs.Image.{part}
 use Rattle.image.specs.Writes.{Write, put, writes, Follows, Apart}
 use Rattle.image.proofs.Writes.{writes-read, BehindOf}
+use Rattle.words.specs.declared.order.ByteOrder.{ByteOrder}
 use Rattle.words.specs.Word.{numeral, bitsAt}
 use Rattle.words.proofs.Table.{places-same, places-next}
 use Rattle.words.proofs.Number.{length-numeral}
@@ -20,7 +21,8 @@ use Rattle.geometry.specs.Units.{firstRecordOffsetOf}
 use Rattle.layout.specs.FirstRecordWords.{reclenWord, kindWord, vindWord, lindWord, flagsWord, xnextWord, nextrecWord, nextwordWord, lex1Word, nexWord, gexWord, aexWord}
 use Rattle.geometry.specs.declared.units.WordNumber.{WordNumber}
 use Rattle.descriptor.specs.declared.numbers.DescriptorNumbers.{DescriptorNumbers}
-use Rattle.descriptor.specs.FirstRecord.{fileCodeOf, field4, field8, numbersOf, aexAt, addressesOf}
+use Rattle.layout.specs.FileCode.{orderSaid, fileCodeOf, byteOrderOf}
+use Rattle.descriptor.specs.FirstRecord.{field4, field8, numbersOf, aexAt, addressesOf}
 use Rattle.storing.specs.Handed.{Handed}
 use Rattle.placing.specs.Placing.{full, newArea, nexAfter, numbersAfter, addressesAfter}
 use Rattle.fields.specs.FieldWrites.{countWrites}
@@ -54,91 +56,102 @@ module _ (file : List ℕ) {d : DescriptorNumbers} {addresses : List RecordNumbe
   unfolding fileCodeOf
   code-kept = first-keep 0 4 (omega (arith, words)) (inl (omega arith)) (λ q. (inl (omega arith), inl (omega arith)))
 
+  -- and the order that it says
+  pub order-kept : byteOrderOf (new file x) ≡ byteOrderOf file
+  order-kept = ap orderSaid code-kept
+
   -- a word before the addresses that is none of 7 to 11, and not 13 where an extension is made
   word-kept : (w : WordNumber) → w .0 ≤ 14 → Beside (firstRecordOffsetOf w) 4 24 20 → (full d ≡ true → Beside (firstRecordOffsetOf w) 4 48 4) → field4 (new file x) w ≡ field4 file w
   unfolding field4
   word-kept w l b c =
-      bits-alike w32 (new file x) file (firstRecordOffsetOf w) (firstRecordOffsetOf w) (first-keep (firstRecordOffsetOf w) 4 (omega (arith, words)) b (λ q. (c q, inl (omega arith))))
+      bits-alike w32 (new file x) file (firstRecordOffsetOf w) (firstRecordOffsetOf w) order-kept (first-keep (firstRecordOffsetOf w) 4 (omega (arith, words)) b (λ q. (c q, inl (omega arith))))
 
-  -- ---- what is written
+  -- ---- what is written, for numbers in the order that the file's code says
 
-  -- the counts
-  count-read : (w : Width) (k at u : ℕ) → BehindOf k (put at (numeral (bytes w) u)) (countWrites (then file x)) → u < 2 ^ bits w → at + bytes w ≤ 64 → bitsAt w (new file x) at ≡ u
-  count-read w k at u e f l =
-      ap (λ (g : List ℕ). bitsAt w g at) (counted-last file x) ∙ bits-follow w (indexed file x) 24 (countWrites (then file x)) follows k at u e f (omega (arith, left file x .size-indexed, words))
-    where
-      follows : Follows 24 (countWrites (then file x))
-      follows = simp length-numeral (omega arith)
+  module _ (o : d .order ≡ byteOrderOf file) where
+    -- the order after the append
+    pub order-new : byteOrderOf (new file x) ≡ d .order
+    order-new = order-kept ∙ sym o
 
-  -- a number that a new area writes, behind us and before vs
-  area-read : full d ≡ true → (w : Width) (at u : ℕ) (us vs : List Write) → us ++ (put at (numeral (bytes w) u) ∷ vs) ≡ areaWrites d → Apart at (length (numeral (bytes w) u)) vs
-      → 44 ≤ at → at + bytes w ≤ 4 * d .reclen → u < 2 ^ bits w → bitsAt w (new file x) at ≡ u
-  unfolding areaWritten
-  area-read q w at u us vs e apart low high small =
-      let ys = numeral (bytes w) u in
-      let n = length-numeral (bytes w) u in
-      bits-of w (new file x) at u small (
-      first-left at (length ys) (omega (arith, n)) (inr low)
-      ∙ rw q (ap (λ (ws : List Write). part (writes file ws) at (length ys)) (sym e) ∙ writes-read file us at ys vs (omega (arith, n, x .admitted .lent .first)) apart))
+    -- the counts
+    count-read : (w : Width) (k at u : ℕ) → BehindOf k (put at (numeral (d .order) (bytes w) u)) (countWrites (then file x)) → u < 2 ^ bits w → at + bytes w ≤ 64 → bitsAt (byteOrderOf (new file x)) w (new file x) at ≡ u
+    count-read w k at u e f l =
+        ap (λ (p : ByteOrder). bitsAt p w (new file x) at) order-new
+        ∙ ap (λ (g : List ℕ). bitsAt (d .order) w g at) (counted-last file x) ∙ bits-follow (d .order) w (indexed file x) 24 (countWrites (then file x)) follows k at u e f (omega (arith, left file x .size-indexed, words))
+      where
+        follows : Follows 24 (countWrites (then file x))
+        follows = simp length-numeral (omega arith)
 
-  -- word 13: written with a new area, else kept
-  nex-read : field4 file nexWord ≡ d .nex → field4 (new file x) nexWord ≡ nexAfter d
-  unfolding field4
-  nex-read e =
-      either (full d)
-      (λ q.
-      area-read q w32 48 (d .nex + 1) (take 1 (areaWrites d)) (drop 2 (areaWrites d)) refl (inl (omega (arith, length-numeral 4 (d .nex + 1))), tt) (omega arith) (omega (arith, words))
-      (omega (arith, x .admitted .settled .nex-high))
-      ∙ sym (nex-full d q))
-      (λ q. word-kept nexWord (omega arith) (inr (omega arith)) (λ t. absurd (false≢true (sym q ∙ t))) ∙ e ∙ sym (nex-kept d q))
+    -- a number that a new area writes, behind us and before vs
+    area-read : full d ≡ true → (w : Width) (at u : ℕ) (us vs : List Write) → us ++ (put at (numeral (d .order) (bytes w) u) ∷ vs) ≡ areaWrites d → Apart at (length (numeral (d .order) (bytes w) u)) vs
+        → 44 ≤ at → at + bytes w ≤ 4 * d .reclen → u < 2 ^ bits w → bitsAt (byteOrderOf (new file x)) w (new file x) at ≡ u
+    unfolding areaWritten
+    area-read q w at u us vs e apart low high small =
+        let ys = numeral (d .order) (bytes w) u in
+        let n = length-numeral (d .order) (bytes w) u in
+        ap (λ (p : ByteOrder). bitsAt p w (new file x) at) order-new ∙ bits-of (d .order) w (new file x) at u small (
+        first-left at (length ys) (omega (arith, n)) (inr low)
+        ∙ rw q (ap (λ (ws : List Write). part (writes file ws) at (length ys)) (sym e) ∙ writes-read file us at ys vs (omega (arith, n, x .admitted .lent .first)) apart))
 
-  -- ---- the numbers and the addresses
+    -- word 13: written with a new area, else kept
+    nex-read : field4 file nexWord ≡ d .nex → field4 (new file x) nexWord ≡ nexAfter d
+    unfolding field4
+    nex-read e =
+        either (full d)
+        (λ q.
+        area-read q w32 48 (d .nex + 1) (take 1 (areaWrites d)) (drop 2 (areaWrites d)) refl (inl (omega (arith, length-numeral (d .order) 4 (d .nex + 1))), tt) (omega arith) (omega (arith, words))
+        (omega (arith, x .admitted .settled .nex-high))
+        ∙ sym (nex-full d q))
+        (λ q. word-kept nexWord (omega arith) (inr (omega arith)) (λ t. absurd (false≢true (sym q ∙ t))) ∙ e ∙ sym (nex-kept d q))
 
-  -- where the file held the numbers before the append, it holds those after it
-  pub numbers-read : numbersOf file ≡ d → numbersOf (new file x) ≡ then file x
-  unfolding numbersOf numbersAfter field4 field8
-  numbers-read e =
-      let a = left file x .admitted in
-      rw (
-        word-kept reclenWord (omega arith) (inl (omega arith)) (λ q. inl (omega arith)) ∙ ap (λ (m : DescriptorNumbers). m .reclen) e,
-        word-kept kindWord (omega arith) (inl (omega arith)) (λ q. inl (omega arith)) ∙ ap (λ (m : DescriptorNumbers). m .kind) e,
-        word-kept vindWord (omega arith) (inl (omega arith)) (λ q. inl (omega arith)) ∙ ap (λ (m : DescriptorNumbers). m .vind) e,
-        word-kept lindWord (omega arith) (inl (omega arith)) (λ q. inl (omega arith)) ∙ ap (λ (m : DescriptorNumbers). m .lind) e,
-        word-kept flagsWord (omega arith) (inl (omega arith)) (λ q. inl (omega arith)) ∙ ap (λ (m : DescriptorNumbers). m .flags) e,
-        count-read w64 0 (firstRecordOffsetOf xnextWord) (then file x .xnext .0) refl (omega (arith, xnext-small (length file) (then file x) (areasThen file x) a)) (omega arith),
-        count-read w64 1 (firstRecordOffsetOf nextrecWord) (then file x .nextrec .0) refl (omega (arith, a .free .record-high)) (omega arith),
-        count-read w32 2 (firstRecordOffsetOf nextwordWord) (then file x .nextword .0) refl (omega (arith, a .free .word-high, a .settled .reclen-high)) (omega arith),
-        word-kept lex1Word (omega arith) (inr (omega arith)) (λ q. inl (omega arith)) ∙ ap (λ (m : DescriptorNumbers). m .lex1) e,
-        nex-read (ap (λ (m : DescriptorNumbers). m .nex) e),
-        word-kept gexWord (omega arith) (inr (omega arith)) (λ q. inr (omega arith)) ∙ ap (λ (m : DescriptorNumbers). m .gex) e,
-      )
+    -- ---- the numbers and the addresses
 
-  -- an address in use stays
-  address-kept : (i : ℕ) → i < d .nex → aexAt (new file x) i ≡ aexAt file i
-  unfolding field8
-  address-kept i l =
-      let at = firstRecordOffsetOf (aexWord i) in
-      rw (bits-alike w64 (new file x) file at at
-      (first-keep at 8 (omega (arith, x .admitted .settled .nex-room)) (inr (omega arith)) (λ q. (inr (omega arith), inl (omega arith)))))
+    -- where the file held the numbers before the append, it holds those after it
+    pub numbers-read : numbersOf file ≡ d → numbersOf (new file x) ≡ then file x
+    unfolding numbersOf numbersAfter field4 field8
+    numbers-read e =
+        let a = left file x .admitted in
+        rw (
+          word-kept reclenWord (omega arith) (inl (omega arith)) (λ q. inl (omega arith)) ∙ ap (λ (m : DescriptorNumbers). m .reclen) e,
+          word-kept kindWord (omega arith) (inl (omega arith)) (λ q. inl (omega arith)) ∙ ap (λ (m : DescriptorNumbers). m .kind) e,
+          word-kept vindWord (omega arith) (inl (omega arith)) (λ q. inl (omega arith)) ∙ ap (λ (m : DescriptorNumbers). m .vind) e,
+          word-kept lindWord (omega arith) (inl (omega arith)) (λ q. inl (omega arith)) ∙ ap (λ (m : DescriptorNumbers). m .lind) e,
+          word-kept flagsWord (omega arith) (inl (omega arith)) (λ q. inl (omega arith)) ∙ ap (λ (m : DescriptorNumbers). m .flags) e,
+          count-read w64 0 (firstRecordOffsetOf xnextWord) (then file x .xnext .0) refl (omega (arith, xnext-small (length file) (then file x) (areasThen file x) a)) (omega arith),
+          count-read w64 1 (firstRecordOffsetOf nextrecWord) (then file x .nextrec .0) refl (omega (arith, a .free .record-high)) (omega arith),
+          count-read w32 2 (firstRecordOffsetOf nextwordWord) (then file x .nextword .0) refl (omega (arith, a .free .word-high, a .settled .reclen-high)) (omega arith),
+          word-kept lex1Word (omega arith) (inr (omega arith)) (λ q. inl (omega arith)) ∙ ap (λ (m : DescriptorNumbers). m .lex1) e,
+          nex-read (ap (λ (m : DescriptorNumbers). m .nex) e),
+          word-kept gexWord (omega arith) (inr (omega arith)) (λ q. inr (omega arith)) ∙ ap (λ (m : DescriptorNumbers). m .gex) e,
+          order-new,
+        )
 
-  -- the address of a new area is written
-  address-new : full d ≡ true → aexAt (new file x) (d .nex) ≡ newArea d
-  unfolding field8
-  address-new q =
-      rw (area-read q w64 (firstRecordOffsetOf (aexWord (d .nex))) (newArea d .0) (take 2 (areaWrites d)) (drop 3 (areaWrites d)) refl tt (omega arith)
-      (omega (arith, nex-more d (x .admitted .settled) (x .extensible) q .1))
-      (omega (arith, new-small d (x .admitted .settled) (free-small (length file) d addresses (x .admitted)))))
+    -- an address in use stays
+    address-kept : (i : ℕ) → i < d .nex → aexAt (new file x) i ≡ aexAt file i
+    unfolding field8
+    address-kept i l =
+        let at = firstRecordOffsetOf (aexWord i) in
+        rw (bits-alike w64 (new file x) file at at order-kept
+        (first-keep at 8 (omega (arith, x .admitted .settled .nex-room)) (inr (omega arith)) (λ q. (inr (omega arith), inl (omega arith)))))
 
-  table-kept : addressesOf (new file x) (d .nex) ≡ addressesOf file (d .nex)
-  unfolding addressesOf
-  table-kept = places-same 16 (d .nex) (aexAt (new file x)) (aexAt file) (record { 0 = 0 }) address-kept
+    -- the address of a new area is written
+    address-new : full d ≡ true → aexAt (new file x) (d .nex) ≡ newArea d
+    unfolding field8
+    address-new q =
+        rw (area-read q w64 (firstRecordOffsetOf (aexWord (d .nex))) (newArea d .0) (take 2 (areaWrites d)) (drop 3 (areaWrites d)) refl tt (omega arith)
+        (omega (arith, nex-more d (x .admitted .settled) (x .extensible) q .1))
+        (omega (arith, new-small d (x .admitted .settled) (free-small (length file) d addresses (x .admitted)))))
 
-  -- and so it is with the addresses
-  pub addresses-read : addressesOf file (d .nex) ≡ addresses → addressesOf (new file x) (then file x .nex) ≡ areasThen file x
-  unfolding numbersAfter addressesAfter addressesOf
-  addresses-read e =
-      either (full d)
-      (λ q.
-      let next = places-next 16 (d .nex) (aexAt (new file x)) (record { 0 = 0 }) (nex-more d (x .admitted .settled) (x .extensible) q .0) in
-      rw (nex-full d q, q) (sym next ∙ ap₂ (λ (l : List RecordNumber) (r : RecordNumber). set l (d .nex) r) (table-kept ∙ e) (address-new q)))
-      (λ q. rw (nex-kept d q, q) (table-kept ∙ e))
+    table-kept : addressesOf (new file x) (d .nex) ≡ addressesOf file (d .nex)
+    unfolding addressesOf
+    table-kept = places-same 16 (d .nex) (aexAt (new file x)) (aexAt file) (record { 0 = 0 }) address-kept
+
+    -- and so it is with the addresses
+    pub addresses-read : addressesOf file (d .nex) ≡ addresses → addressesOf (new file x) (then file x .nex) ≡ areasThen file x
+    unfolding numbersAfter addressesAfter addressesOf
+    addresses-read e =
+        either (full d)
+        (λ q.
+        let next = places-next 16 (d .nex) (aexAt (new file x)) (record { 0 = 0 }) (nex-more d (x .admitted .settled) (x .extensible) q .0) in
+        rw (nex-full d q, q) (sym next ∙ ap₂ (λ (l : List RecordNumber) (r : RecordNumber). set l (d .nex) r) (table-kept ∙ e) (address-new q)))
+        (λ q. rw (nex-kept d q, q) (table-kept ∙ e))

@@ -12,6 +12,7 @@ use Rattle.image.specs.Writes.{Write, put, writes, written, Follows}
 use Rattle.image.proofs.Part.{part-within}
 use Rattle.image.proofs.Splice.{length-zeros}
 use Rattle.image.proofs.Writes.{writes-one, writes-keep}
+use Rattle.words.specs.declared.order.ByteOrder.{ByteOrder}
 use Rattle.words.specs.Word.{numeral}
 use Rattle.words.proofs.Number.{length-numeral}
 use Rattle.geometry.specs.declared.units.RecordNumber.{RecordNumber}
@@ -52,10 +53,10 @@ module _ (a n : ℕ) where
   counts-keep file d = follow-keep a n file 24 20 (countWrites d) (simp length-numeral (omega arith)) (simp (length-append, length-numeral) (omega arith))
 
   -- the index changes its slot of lind words
-  slot-keep : (file : List ℕ) (slot lind : ℕ) (place : Place) (index : List ℕ) → 3 ≤ lind → length index ≡ 4 * (lind - 3)
-      → Beside a n (4 * slot) (4 * lind) → part (writes file (slotWrites slot place index)) a n ≡ part file a n
-  slot-keep file slot lind place index low e =
-      follow-keep a n file (4 * slot) (4 * lind) (slotWrites slot place index) (simp length-numeral (omega arith)) (simp (length-append, length-numeral) (omega arith))
+  slot-keep : (o : ByteOrder) (file : List ℕ) (slot lind : ℕ) (place : Place) (index : List ℕ) → 3 ≤ lind → length index ≡ 4 * (lind - 3)
+      → Beside a n (4 * slot) (4 * lind) → part (writes file (slotWrites o slot place index)) a n ≡ part file a n
+  slot-keep o file slot lind place index low e =
+      follow-keep a n file (4 * slot) (4 * lind) (slotWrites o slot place index) (simp length-numeral (omega arith)) (simp (length-append, length-numeral) (omega arith))
 
   module _ (file : List ℕ) (d : DescriptorNumbers) where
     -- the entry changes its nword words
@@ -63,8 +64,8 @@ module _ (a n : ℕ) where
     unfolding entryWritten
     entry-keep h f b =
         let start = entryStart d in
-        ap (λ (g : List ℕ). part g a n) (entry-one start h (d .xnext) file)
-        ∙ follow-keep a n file (4 * start) (4 * nwordIn h) (entryWrites start h (d .xnext)) (entry-follows start h (d .xnext) (f .pairs) (f .sections))
+        ap (λ (g : List ℕ). part g a n) (entry-one (d .order) start h (d .xnext) file)
+        ∙ follow-keep a n file (4 * start) (4 * nwordIn h) (entryWrites (d .order) start h (d .xnext)) (entry-follows (d .order) start h (d .xnext) (f .pairs) (f .sections))
         (simp (length-append, length-numeral, length-identifierBytes, length-lengthBytes, length-addressBytes) (omega (arith, f .pairs, f .sections, value-bytes d h f))) b
 
     -- a new area changes nex, its address, and the words from the next free position to the entry
@@ -85,7 +86,7 @@ module _ (file : List ℕ) {d : DescriptorNumbers} {addresses : List RecordNumbe
   entry-left counts far =
       ap (λ (f : List ℕ). part f a n) (counted-last file x)
       ∙ counts-keep a n (indexed file x) (then file x) counts
-      ∙ slot-keep a n (entryWritten (areaWritten file d) d h) (slot file x) (d .lind) (placeOf (d .reclen) (entryStart d)) (h .index) (x .admitted .settled .lind-low) (x .fitting .index) far
+      ∙ slot-keep a n (d .order) (entryWritten (areaWritten file d) d h) (slot file x) (d .lind) (placeOf (d .reclen) (entryStart d)) (h .index) (x .admitted .settled .lind-low) (x .fitting .index) far
 
   -- beside the entry too, as the new area left them
   pub area-left : Beside a n 24 20 → Beside a n (4 * slot file x) (4 * d .lind) → Beside a n (4 * entryStart d) (4 * nwordIn h) → part (new file x) a n ≡ part (areaWritten file d) a n
@@ -103,7 +104,7 @@ module _ (file : List ℕ) {d : DescriptorNumbers} {addresses : List RecordNumbe
       let room = nex-more d (x .admitted .settled) (x .extensible) q .1 in
       area-left (inr (omega arith)) far (inl high)
       ∙ rw q
-      (writes-keep (splice file (4 * freeOf d) zeroed) (field nexWord (numeral 4 (d .nex + 1)) ∷ field (aexWord (d .nex)) (numeral 8 (newArea d .0)) ∷ []) a n (simp length-numeral (inr (omega arith), (inr (omega arith), tt)))
+      (writes-keep (splice file (4 * freeOf d) zeroed) (field nexWord (numeral (d .order) 4 (d .nex + 1)) ∷ field (aexWord (d .nex)) (numeral (d .order) 8 (newArea d .0)) ∷ []) a n (simp length-numeral (inr (omega arith), (inr (omega arith), tt)))
       ∙ part-within file a n (4 * freeOf d) zeroed (a - 4 * freeOf d) (omega arith) (omega arith) (omega arith))
 
   -- an accepted append changes words 7 to 11 of the first record, nex and the new address where an extension is made, the slot of the new entry, and the

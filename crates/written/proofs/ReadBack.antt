@@ -5,15 +5,13 @@ use mathlib.Core.List.{List}
 use native.Mathlib.Omega.{arith}
 use borrow.Author.Tests.{eq-eqb}
 use lib.ListN.{length}
-use Rattle.words.specs.Code.{sameBytes}
 use Rattle.geometry.specs.declared.units.RecordNumber.{RecordNumber}
 use Rattle.descriptor.specs.declared.numbers.DescriptorNumbers.{DescriptorNumbers}
 use Rattle.descriptor.specs.declared.validating.Validated.the-variants.{Numbers}
-use Rattle.layout.specs.FirstRecordWords.{fileCode}
 use Rattle.descriptor.specs.FirstRecord.{numbersOf, addressesOf}
 use Rattle.descriptor.specs.Rules.{fileRefusal}
 use Rattle.descriptor.specs.Answers.{validationOf}
-use Rattle.descriptor.proofs.Answered.{file-passed, file-admitted, answer-numbers}
+use Rattle.descriptor.proofs.Answered.{file-order, file-passed, file-admitted, answer-numbers}
 use Rattle.storing.specs.Handed.{Handed}
 use Rattle.placing.specs.Placing.{numbersAfter}
 use Rattle.writer.specs.Rules.{appendRefusal}
@@ -22,7 +20,7 @@ use Rattle.storing.specs.Bounds.{Accepted}
 use Rattle.writer.proofs.HandedIn.{accepted}
 use Rattle.descriptor.proofs.Admitting.{Apt, apt, validated}
 use Rattle.written.proofs.AppendLeaves.{new, then, areasThen, left}
-use Rattle.written.proofs.FirstRecordAfter.{code-kept, numbers-read, addresses-read}
+use Rattle.written.proofs.FirstRecordAfter.{numbers-read, addresses-read}
 
 -- a file validates with these numbers and addresses
 abbrev pub Validates : List ℕ → DescriptorNumbers → List RecordNumber → Type 0
@@ -30,19 +28,18 @@ Validates file d addresses = validationOf file ≡ record { refusal = 0; numbers
 
 -- an append to the numbers of a file that is not refused
 module _ (file : List ℕ) (z : fileRefusal file ≡ 0) {h : Handed} (x : Accepted (length file) (numbersOf file) (addressesOf file (numbersOf file .nex)) h) where
-  -- rules 5 to 7 hold of it still
+  -- rules 2 and 5 to 7 hold of it still
   apt-after : Apt (then file x)
   unfolding numbersAfter
-  apt-after = let t = apt (length file) (numbersOf file) (file-passed file z .settings) in record { kind = t .kind; vind = t .vind; flags = t .flags }
+  apt-after = let t = apt (length file) (numbersOf file) (file-passed file z .settings) in record { order = t .order; kind = t .kind; vind = t .vind; flags = t .flags }
 
   -- validating the file after it gives the numbers and addresses after it
   pub validated-after : Validates (new file x) (then file x) (areasThen file x)
   validated-after =
       let p = file-passed file z in
       let l = left file x in
-      validated (new file x) (then file x) (areasThen file x) (numbers-read file x refl) (addresses-read file x refl)
+      validated (new file x) (then file x) (areasThen file x) (numbers-read file x (file-order file) refl) (addresses-read file x (file-order file) refl)
       (omega (arith, p .long))
-      (ap (λ (l : List ℕ). sameBytes l fileCode) (code-kept file x) ∙ p .code)
       apt-after
       (rw (l .size) (l .admitted))
 

@@ -10,7 +10,8 @@ use lib.ListN.{length}
 use mir.Val.{SFits}
 use Rattle.image.specs.Image.{part}
 use Rattle.image.specs.Writes.{put, Follows}
-use Rattle.words.specs.Word.{numeral, integer4, integer8}
+use Rattle.words.specs.declared.order.ByteOrder.{ByteOrder}
+use Rattle.words.specs.Word.{numeral, integer4, integer8, bitsAt}
 use Rattle.image.proofs.Writes.{BehindOf, follow-read}
 use Rattle.words.proofs.Number.{length-numeral}
 use Rattle.words.proofs.Codes.{same-self}
@@ -21,6 +22,7 @@ use Rattle.geometry.specs.Units.{placeOf, entriesBefore}
 use Rattle.geometry.proofs.Positions.{position-place, place-word}
 use Rattle.descriptor.specs.declared.numbers.DescriptorNumbers.{DescriptorNumbers}
 use Rattle.descriptor.specs.Refusal.{refusalIn}
+use Rattle.layout.specs.FileCode.{byteOrderOf}
 use Rattle.layout.specs.EntryWords.{entryCode}
 use Rattle.entry.specs.Opening as opening
 use Rattle.entry.proofs.Entering.{entry-content, entered-numbers}
@@ -31,11 +33,12 @@ use Rattle.storing.specs.Bounds.{Accepted}
 use Rattle.storing.proofs.Lengths.{counted}
 use Rattle.written.proofs.AppendLeaves.{new, then, areasThen, slot, indexed, counted-last, left, length-area, length-entry}
 use Rattle.written.proofs.Frame.{counts-keep}
+use Rattle.written.proofs.FirstRecordAfter.{order-new}
 use Rattle.written.proofs.EntryRead.{code-new, version-new, nsec-new, nword-new, xnum-new}
 use Rattle.written.proofs.EntryPieces.{sections-within, sections-apart, array, data-new, data-within, data-apart}
 use Rattle.words.proofs.Ranges.{within-row, atLeast-row}
 
-module _ (file : List ℕ) {d : DescriptorNumbers} {addresses : List RecordNumber} {h : Handed} (x : Accepted (length file) d addresses h) where
+module _ (file : List ℕ) {d : DescriptorNumbers} {addresses : List RecordNumber} {h : Handed} (x : Accepted (length file) d addresses h) (o : d .order ≡ byteOrderOf file) where
   abbrev start : ℕ
   start = entryStart d
 
@@ -45,15 +48,15 @@ module _ (file : List ℕ) {d : DescriptorNumbers} {addresses : List RecordNumbe
   -- ---- its index
 
   -- what the write behind k others wrote of the slot
-  slot-read : (k at : ℕ) (ys : List ℕ) → BehindOf k (put at ys) (slotWrites (slot file x) place (h .index)) → 4 * slot file x ≤ at → at + length ys ≤ 4 * (slot file x + d .lind)
+  slot-read : (k at : ℕ) (ys : List ℕ) → BehindOf k (put at ys) (slotWrites (d .order) (slot file x) place (h .index)) → 4 * slot file x ≤ at → at + length ys ≤ 4 * (slot file x + d .lind)
       → part (new file x) at (length ys) ≡ ys
   slot-read k at ys e low high =
       ap (λ (f : List ℕ). part f at (length ys)) (counted-last file x)
       ∙ counts-keep at (length ys) (indexed file x) (then file x) (inr (omega (arith, left file x, x .admitted .settled .reclen-low)))
-      ∙ follow-read (entryWritten (areaWritten file d) d h) (4 * slot file x) (slotWrites (slot file x) place (h .index)) follows k at ys e
+      ∙ follow-read (entryWritten (areaWritten file d) d h) (4 * slot file x) (slotWrites (d .order) (slot file x) place (h .index)) follows k at ys e
       (omega (arith, left file x, length-entry (areaWritten file d) d h, length-area file d))
     where
-      follows : Follows (4 * slot file x) (slotWrites (slot file x) place (h .index))
+      follows : Follows (4 * slot file x) (slotWrites (d .order) (slot file x) place (h .index))
       follows = simp length-numeral (omega arith)
 
   -- the application's words
@@ -76,9 +79,12 @@ module _ (file : List ℕ) {d : DescriptorNumbers} {addresses : List RecordNumbe
       let r = place .«record» .0 in
       let w = place .word .0 in
       ap₂ (λ (r w : ℕ). record { «record» = record { 0 = r }; word = record { 0 = w } })
-      (bits-of integer8 (new file x) (4 * slot file x) r (omega (arith, place-small .0)) (slot-read 0 (4 * slot file x) (numeral 8 r) refl (omega arith) (omega (arith, length-numeral 8 r))))
-      (bits-of integer4 (new file x) (4 * (slot file x + 2)) w (omega (arith, place-small .2, x .admitted .settled .reclen-high))
-      (slot-read 1 (4 * (slot file x + 2)) (numeral 4 w) refl (omega arith) (omega (arith, length-numeral 4 w))))
+      (ap (λ (p : ByteOrder). bitsAt p integer8 (new file x) (4 * slot file x)) (order-new file x o)
+      ∙ bits-of (d .order) integer8 (new file x) (4 * slot file x) r (omega (arith, place-small .0))
+      (slot-read 0 (4 * slot file x) (numeral (d .order) 8 r) refl (omega arith) (omega (arith, length-numeral (d .order) 8 r))))
+      (ap (λ (p : ByteOrder). bitsAt p integer4 (new file x) (4 * (slot file x + 2))) (order-new file x o)
+      ∙ bits-of (d .order) integer4 (new file x) (4 * (slot file x + 2)) w (omega (arith, place-small .2, x .admitted .settled .reclen-high))
+      (slot-read 1 (4 * (slot file x + 2)) (numeral (d .order) 4 w) refl (omega arith) (omega (arith, length-numeral (d .order) 4 w))))
 
   -- ---- every rule holds
 
@@ -109,11 +115,11 @@ module _ (file : List ℕ) {d : DescriptorNumbers} {addresses : List RecordNumbe
   unfolding opening.headRefusal
   head-none =
       rw (
-        code-new file x,
-        nsec-new file x,
-        nword-new file x,
+        code-new file x o,
+        nsec-new file x o,
+        nword-new file x o,
         left file x .free,
-        xnum-new file x,
+        xnum-new file x o,
         same-self entryCode,
         within-row 0 64 (nsecIn h) (omega arith) (omega arith) (x .fitting .few),
         atLeast-row (11 + 5 * nsecIn h) (nwordIn h) (omega arith) (omega (arith, left file x .small)),
@@ -122,19 +128,19 @@ module _ (file : List ℕ) {d : DescriptorNumbers} {addresses : List RecordNumbe
       )
 
   -- rules 17 to 19
-  content-none : opening.contentRefusal (new file x) start (nsecIn h) (nwordIn h) (array file x) ≡ 0
+  content-none : opening.contentRefusal (new file x) start (nsecIn h) (nwordIn h) (array file x o) ≡ 0
   unfolding opening.contentRefusal
   content-none =
-      rw (atLeast-row 0 (ldataIn h) (omega arith) (omega (arith, left file x .small)), data-within file x, sections-within file x, sections-apart file x, data-apart file x)
+      rw (atLeast-row 0 (ldataIn h) (omega arith) (omega (arith, left file x .small)), data-within file x o, sections-within file x o, sections-apart file x o, data-apart file x o)
 
   -- so the entry opens
   pub not-refused : opening.entryRefusal (new file x) (then file x) (areasThen file x) (d .xnext) ≡ 0
   not-refused =
       entry-content (new file x) (then file x) (areasThen file x) (d .xnext) number-none place (sym place-new) 0 start-none
-      (rw start-is head-none) (rw (start-is, nsec-new file x, nword-new file x, data-new file x) content-none)
+      (rw start-is head-none) (rw (start-is, nsec-new file x o, nword-new file x o, data-new file x o) content-none)
 
   -- with the numbers of what was handed in
   pub entered-new : SFits integer4 (h .version) → opening.enteredOf (new file x) (then file x) (areasThen file x) (d .xnext)
-      ≡ record { refusal = 0; place = place; start = start; version = h .version; nsec = nsecIn h; nword = nwordIn h; array = array file x }
+      ≡ record { refusal = 0; place = place; start = start; version = h .version; nsec = nsecIn h; nword = nwordIn h; array = array file x o }
   entered-new g =
-      entered-numbers (new file x) (then file x) (areasThen file x) (d .xnext) not-refused ∙ rw (place-new, start-is, version-new file x g, nsec-new file x, nword-new file x, data-new file x)
+      entered-numbers (new file x) (then file x) (areasThen file x) (d .xnext) not-refused ∙ rw (place-new, start-is, version-new file x o g, nsec-new file x o, nword-new file x o, data-new file x o)

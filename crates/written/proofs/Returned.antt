@@ -18,11 +18,13 @@ use Rattle.descriptor.specs.declared.numbers.DescriptorNumbers.{DescriptorNumbe
 use Rattle.descriptor.specs.declared.validating.Validated.the-variants.{Numbers}
 use Rattle.descriptor.specs.FirstRecord.{numbersOf, addressesOf}
 use Rattle.descriptor.specs.Rules.{fileRefusal}
+use Rattle.descriptor.proofs.Answered.{file-order}
 use Rattle.pieces.specs.declared.contents.Piece.{Piece}
 use Rattle.pieces.specs.declared.tables.Sections.{Sections}
 use Rattle.pieces.specs.EntryDescriptor.{identifierAt, sectionOf}
 use Rattle.entry.specs.declared.answers.Opened.{Opened}
 use Rattle.entry.specs.declared.answers.Open.the-variants as opened
+use Rattle.layout.specs.FileCode.{byteOrderOf}
 use Rattle.layout.specs.EntryWords.{firstContent}
 use Rattle.pieces.specs.Tables.{sectionIdentifiers, sectionLengths, sectionsOf, sectionNamed}
 use Rattle.pieces.specs.Tables as tables
@@ -82,6 +84,10 @@ module _ (file : List ℕ) (h : Handed) (g : Integers h) (z : fileRefusal file �
   abbrev x : Accepted (length file) d (addressesOf file (d .nex)) h
   x = admits file h z a
 
+  -- its code says the order of its numbers
+  abbrev o : d .order ≡ byteOrderOf file
+  o = file-order file
+
   -- opened by its number it comes back as handed in
   pub opened-again : openOf (fileAfter file h) (d .xnext) ≡ openedFrom h d
   unfolding openOf enteredIn openedAs sectionsOf sectionIdentifiers sectionLengths tables.sectionAddresses
@@ -89,12 +95,12 @@ module _ (file : List ℕ) (h : Handed) (g : Integers h) (z : fileRefusal file �
       rw (
         file-written file h z a,
         validated-after file z x,
-        entered-new file x (g .version),
-        places-same 64 (nsecIn h) (identifierAt (new file x) (entryStart d)) (λ i. getD (h .ids) i (pos 0)) (pos 0) (λ i l. identifier-new file x i l (g .ids i l)),
+        entered-new file x o (g .version),
+        places-same 64 (nsecIn h) (identifierAt (new file x) (entryStart d)) (λ i. getD (h .ids) i (pos 0)) (pos 0) (λ i l. identifier-new file x o i l (g .ids i l)),
         places-same 64 (nsecIn h) (λ i. sectionOf (new file x) (entryStart d) (nsecIn h) i .words) (λ i. wordsOf (getD (h .lengths) i (pos 0))) 0
-            (λ i l. ap (λ (p : Piece). p .words) (section-new file x i l)),
+            (λ i l. ap (λ (p : Piece). p .words) (section-new file x o i l)),
         places-same 64 (nsecIn h) (λ i. sectionOf (new file x) (entryStart d) (nsecIn h) i .address) (λ i. record { 0 = firstContent (nsecIn h) .0 + sumOf (take i (h .lengths)) }) (record { 0 = 0 })
-            (λ i l. ap (λ (p : Piece). p .address) (section-new file x i l)),
+            (λ i l. ap (λ (p : Piece). p .address) (section-new file x o i l)),
       )
 
   -- its index words have the bytes that were handed in
@@ -103,7 +109,7 @@ module _ (file : List ℕ) (h : Handed) (g : Integers h) (z : fileRefusal file �
   index-again =
       let at = 4 * (slot file x + 3) in
       let q : at + 4 * (then file x .lind - 3) - at ≡ length (h .index) = omega (arith, x .fitting .index, left file x .lind) in
-      rw (file-written file h z a, validated-after file z x, entered-new file x (g .version), q) (index-new file x)
+      rw (file-written file h z a, validated-after file z x, entered-new file x o (g .version), q) (index-new file x o)
 
   -- the section that an identifier names
   found : (i : ℕ) (l : i < nsecIn h) → sectionNamed (new file x) (entryStart d) (getD (h .ids) i (pos 0)) 0 (nsecIn h) ≡ i
@@ -114,8 +120,8 @@ module _ (file : List ℕ) (h : Handed) (g : Integers h) (z : fileRefusal file �
       let differ = handed-rows d h (handed-passed d h (length file) a) .1 .1 .1 .0 in
       by-order r i
       (λ e. e)
-      (λ m. let low : r < nsecIn h = omega arith in absurd (not-twice (h .ids) (nsecIn h) r i differ m l (sym (identifier-new file x r low (g .ids r low)) ∙ n .found low)))
-      (λ m. absurd (n .first i m (identifier-new file x i l (g .ids i l))))
+      (λ m. let low : r < nsecIn h = omega arith in absurd (not-twice (h .ids) (nsecIn h) r i differ m l (sym (identifier-new file x o r low (g .ids r low)) ∙ n .found low)))
+      (λ m. absurd (n .first i m (identifier-new file x o i l (g .ids i l))))
 
   -- so does the section that each identifier names
   pub section-again : (i : ℕ) → i < nsecIn h → bytesOf (fileAfter file h) (sectionWordsOf (fileAfter file h) (d .xnext) (getD (h .ids) i (pos 0)))
@@ -125,7 +131,7 @@ module _ (file : List ℕ) (h : Handed) (g : Integers h) (z : fileRefusal file �
       let at = 4 * (entryStart d + (firstContent (nsecIn h) .0 + sumOf (take i (h .lengths)) - 1)) in
       let n = 4 * wordsOf (getD (h .lengths) i (pos 0)) in
       let q : at + n - at ≡ n = omega arith in
-      rw (file-written file h z a, validated-after file z x, entered-new file x (g .version), found i l, lt-ltb i (nsecIn h) l, section-new file x i l, q) (section-read file x i l)
+      rw (file-written file h z a, validated-after file z x, entered-new file x o (g .version), found i l, lt-ltb i (nsecIn h) l, section-new file x o i l, q) (section-read file x o i l)
 
   -- and so does the data
   pub data-again : bytesOf (fileAfter file h) (dataWordsOf (fileAfter file h) (d .xnext)) ≡ h .values
@@ -134,7 +140,7 @@ module _ (file : List ℕ) (h : Handed) (g : Integers h) (z : fileRefusal file �
       let size = value-bytes d h (x .fitting) in
       let at = 4 * (entryStart d + (firstContent (nsecIn h) .0 + sumOf (h .lengths) - 1)) in
       let n : at + 4 * ldataIn h - at ≡ length (h .values) = omega arith in
-      rw (file-written file h z a, validated-after file z x, entered-new file x (g .version))
+      rw (file-written file h z a, validated-after file z x, entered-new file x o (g .version))
       (either (eqb (ldataIn h) 0)
       (λ q. rw q (empty (new file x) (h .values) (omega (arith, eqb-true (ldataIn h) 0 q))))
-      (λ q. rw (q, adata-some file x (eqb-false (ldataIn h) 0 q), n) (data-read file x)))
+      (λ q. rw (q, adata-some file x o (eqb-false (ldataIn h) 0 q), n) (data-read file x o)))

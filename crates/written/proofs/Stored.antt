@@ -11,6 +11,7 @@ use Rattle.image.specs.Image.{part}
 use Rattle.image.specs.Writes.{Write, writes, Follows}
 use Rattle.image.proofs.Part.{part-left, part-right, part-all}
 use Rattle.image.proofs.Writes.{writes-append}
+use Rattle.words.specs.declared.order.ByteOrder.{ByteOrder}
 use Rattle.words.specs.Word.{number}
 use Rattle.words.proofs.Number.{length-numeral}
 use Rattle.geometry.specs.declared.units.EntryNumber.{EntryNumber}
@@ -37,17 +38,17 @@ module _ {width : ℕ} {item : ℕ → ℤ → List ℕ} {bytes : ℕ → List �
 
 -- ---- the writes of an entry
 
-module _ (start : ℕ) (h : Handed) (number : EntryNumber) where
+module _ (o : ByteOrder) (start : ℕ) (h : Handed) (number : EntryNumber) where
   -- all of them, in the order of the words
   abbrev pub entryWrites : List Write
-  entryWrites = headWrites start (headOf h number) ++ (tableWrites start (h .ids) (h .lengths) ++ contentWrites start h)
+  entryWrites = headWrites o start (headOf h number) ++ (tableWrites o start (h .ids) (h .lengths) ++ contentWrites start h)
 
   -- they follow one another
   pub entry-follows : length (h .lengths) ≡ length (h .ids) → length (h .sections) ≡ 4 * sumOf (h .lengths) → Follows (4 * start) entryWrites
   entry-follows pairs sections = simp (length-numeral, length-identifierBytes, length-lengthBytes, length-addressBytes) (omega arith)
 
   -- made in three parts, or in one
-  pub entry-one : (image : List ℕ) → writes (writes (writes image (headWrites start (headOf h number))) (tableWrites start (h .ids) (h .lengths))) (contentWrites start h) ≡ writes image entryWrites
+  pub entry-one : (image : List ℕ) → writes (writes (writes image (headWrites o start (headOf h number))) (tableWrites o start (h .ids) (h .lengths))) (contentWrites start h) ≡ writes image entryWrites
   entry-one image =
-      sym (writes-append image (headWrites start (headOf h number)) (tableWrites start (h .ids) (h .lengths) ++ contentWrites start h)
-      ∙ writes-append (writes image (headWrites start (headOf h number))) (tableWrites start (h .ids) (h .lengths)) (contentWrites start h))
+      sym (writes-append image (headWrites o start (headOf h number)) (tableWrites o start (h .ids) (h .lengths) ++ contentWrites start h)
+      ∙ writes-append (writes image (headWrites o start (headOf h number))) (tableWrites o start (h .ids) (h .lengths)) (contentWrites start h))

@@ -33,7 +33,7 @@ append-from-requires : tie.Need-append-from-requires
 append-from-requires c κs =
     let v = from-validate c in
     let n = c .before .before .before .case in
-    told (began v .args .file .now) (v .validate .result) (n .given .0 .0) (v .validate .ensures) (n .given .1) .admitted
+    told (began v .args .file .now) (v .validate .result) (n .given .0 .0) (v .validate .ensures) (n .given .1) .admitted .admitted
 
 returns-2 : tie.Need-returns-2
 unfolding appendIn fileIn
