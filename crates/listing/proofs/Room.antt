@@ -93,7 +93,7 @@ unfolding overLimit
 room input =
     let v = validationOf input in
     elim (decLe (length input) 65536) [
-      | yes g ↦ rw (output-within input g, listing-by input v (v .numbers) refl refl) (case-short input (v .numbers) (v .addresses) (λ d q. told input v d refl q .admitted) g)
+      | yes g ↦ rw (output-within input g, listing-by input v (v .numbers) refl refl) (case-short input (v .numbers) (v .addresses) (λ d q. told input v d refl q .admitted .admitted) g)
       | no g ↦ rw (output-over input (lt-of-not-le g)) (omega arith)
     ]
 

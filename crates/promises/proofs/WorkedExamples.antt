@@ -1,11 +1,12 @@
 -- The examples that 01 works by hand, P1 to P12, and those of the requests hold of the definitions: by computing. Assumes nothing.
 use mathlib.Core.Path.{refl}
 use Rattle.image.specs.Image.{part, splice, zeros}
-use Rattle.words.specs.Word.{number, numeral, bitsAt}
+use Rattle.words.specs.Word.{littleNumber, littleNumeral, arranged, number, numeral, bitsAt}
 use Rattle.words.specs.Range.{within, atLeast}
 use Rattle.words.specs.Code.{sameBytes}
 use Rattle.geometry.specs.Computing.{computing}
-use Rattle.descriptor.specs.FirstRecord.{fileCodeOf, field4, field8, numbersOf, createdOf, addressesOf, mexOf}
+use Rattle.layout.specs.FileCode.{fileCode, orderSaid, fileCodeOf}
+use Rattle.descriptor.specs.FirstRecord.{field4, field8, numbersOf, createdOf, addressesOf, mexOf}
 use Rattle.descriptor.specs.Areas.{areaAfter, areasStart, areasEnd}
 use Rattle.descriptor.specs.Rules.{entriesFit, fileRefusal}
 use Rattle.descriptor.specs.Answers.{validationOf}
@@ -33,8 +34,8 @@ a & b = (a, b)
 
 -- what the theorems below see through: to unfold this is to unfold all that it names
 seen : Unit {0}
-unfolding part splice zeros number numeral bitsAt within atLeast sameBytes
-    computing fileCodeOf field4 field8 numbersOf createdOf addressesOf mexOf entriesFit areaAfter areasStart areasEnd fileRefusal validationOf
+unfolding part splice zeros littleNumber littleNumeral arranged number numeral bitsAt within atLeast sameBytes
+    computing fileCode orderSaid fileCodeOf field4 field8 numbersOf createdOf addressesOf mexOf entriesFit areaAfter areasStart areasEnd fileRefusal validationOf
     entryCodeOf word4 word8 sectionOf dataOf pieceWithin dataWithin sectionsWithin apart apartFrom sectionsApart dataApart
     sectionAddresses sectionIdentifiers sectionLengths sectionsOf sameInteger sectionNamed
     placeStored slotPositionOf entryRefusal enteredOf enteredIn openedAs openOf sectionPart dataPart partIn
@@ -70,7 +71,7 @@ worked-examples =
     -- P11
     refl & refl & refl & refl &
     -- P12
-    refl &
+    refl & refl &
     record {}
 
 -- every row of the table of the requests

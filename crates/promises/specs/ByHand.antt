@@ -8,38 +8,55 @@ use lib.ListN.{take, drop, replicate}
 abbrev pub wordsAt : List ℕ → ℕ → ℕ → ℕ → List ℕ
 wordsAt file r w n = take (4 * n) (drop (4 * ((r - 1) * 20 + (w - 1))) file)
 
--- a word that holds x, below 256, the least significant byte first
+-- how a file is spelled: its code, a word that holds a number below 256, and an Integer*8 that does, which is two words
+pub record Spelling : Type 0 where
+  pub code : List ℕ
+  pub word : ℕ → List ℕ
+  pub twoWords : ℕ → List ℕ
+
+-- a word with the least significant byte first
 abbrev pub word : ℕ → List ℕ
 word x = x ∷ 0 ∷ 0 ∷ 0 ∷ []
 
--- an Integer*8 that holds x: two words
+-- and an Integer*8
 abbrev pub twoWords : ℕ → List ℕ
-twoWords x = word x ++ word 0
+twoWords x = x ∷ 0 ∷ 0 ∷ 0 ∷ 0 ∷ 0 ∷ 0 ∷ 0 ∷ []
+
+-- a little-endian file
+abbrev pub little : Spelling
+little = record { code = 0x32 ∷ 0x41 ∷ 0x20 ∷ 0x20 ∷ []; word = word; twoWords = twoWords }
+
+-- a big-endian file: the most significant byte first
+abbrev pub big : Spelling
+big = record {
+  code = 0x32 ∷ 0x42 ∷ 0x20 ∷ 0x20 ∷ [];
+  word = λ x. 0 ∷ 0 ∷ 0 ∷ x ∷ [];
+  twoWords = λ x. 0 ∷ 0 ∷ 0 ∷ 0 ∷ 0 ∷ 0 ∷ 0 ∷ x ∷ [];
+}
 
 -- n words of zero
 abbrev pub zeroWords : ℕ → List ℕ
 zeroWords n = replicate (4 * n) 0
 
 -- the first record in the order of Table 1, with the settings of A: reclen 20, kind 1, vind 2, lind 4, flags 0, lex1 2, gex 20. It has room for three addresses
-abbrev pub firstRecord : ℕ → ℕ → ℕ → ℕ → ℕ → ℕ → List ℕ
-firstRecord xnext nextrec nextword nex aex1 aex2 =
-    -- code
-    (0x32 ∷ 0x41 ∷ 0x20 ∷ 0x20 ∷ []) ++
+abbrev pub firstRecord : Spelling → ℕ → ℕ → ℕ → ℕ → ℕ → ℕ → List ℕ
+firstRecord s xnext nextrec nextword nex aex1 aex2 =
+    s .code ++
     -- reclen, kind, vind, lind, flags
-    word 20 ++ word 1 ++ word 2 ++ word 4 ++ word 0 ++
-    twoWords xnext ++ twoWords nextrec ++ word nextword ++
+    s .word 20 ++ s .word 1 ++ s .word 2 ++ s .word 4 ++ s .word 0 ++
+    s .twoWords xnext ++ s .twoWords nextrec ++ s .word nextword ++
     -- lex1, nex, gex
-    word 2 ++ word nex ++ word 20 ++
+    s .word 2 ++ s .word nex ++ s .word 20 ++
     -- aex
-    twoWords aex1 ++ twoWords aex2 ++ twoWords 0
+    s .twoWords aex1 ++ s .twoWords aex2 ++ s .twoWords 0
 
--- words 1 to 11 of an entry in the order of Table 4
-abbrev pub entryHead : ℕ → ℕ → ℕ → ℕ → ℕ → ℕ → List ℕ
-entryHead version nsec nword adata ldata xnum =
+-- words 1 to 11 of an entry in the order of Table 4. The entry code is the same in every file
+abbrev pub entryHead : Spelling → ℕ → ℕ → ℕ → ℕ → ℕ → ℕ → List ℕ
+entryHead s version nsec nword adata ldata xnum =
     -- code
     (0x32 ∷ 0x20 ∷ 0x20 ∷ 0x20 ∷ []) ++
-    word version ++ word nsec ++ twoWords nword ++ twoWords adata ++ twoWords ldata ++ twoWords xnum
+    s .word version ++ s .word nsec ++ s .twoWords nword ++ s .twoWords adata ++ s .twoWords ldata ++ s .twoWords xnum
 
 -- the index of an entry: the record and the word where it starts, and the application's bytes
-abbrev pub slot : ℕ → ℕ → List ℕ → List ℕ
-slot startRecord startWord index = twoWords startRecord ++ word startWord ++ index
+abbrev pub slot : Spelling → ℕ → ℕ → List ℕ → List ℕ
+slot s startRecord startWord index = s .twoWords startRecord ++ s .word startWord ++ index

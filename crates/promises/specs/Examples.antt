@@ -31,7 +31,7 @@ use Rattle.writer.specs.Answers.{appendOf, fileAfter}
 use Rattle.promises.specs.Contents.{numbersIn, openedIn}
 use Rattle.promises.specs.Calls.{following}
 use Rattle.promises.specs.FileA.{settings, append2, append3, created, after1, after2, A, twoSections}
-use Rattle.promises.specs.ByHand.{wordsAt, word, twoWords, zeroWords, firstRecord, entryHead, slot}
+use Rattle.promises.specs.ByHand.{wordsAt, word, twoWords, little, zeroWords, firstRecord, entryHead, slot}
 
 -- a row of a table: P of its number, or Q of the number of a request; what is found, what is expected
 pub data Row : Type 1 where
@@ -105,6 +105,7 @@ abbrev pub filled : Settings → ℕ → ℕ → ℕ → DescriptorNumbers
 filled s xnext nextrec nex =
     let d = createdOf s in
     record {
+      order = d .order;
       reclen = d .reclen;
       kind = d .kind;
       vind = d .vind;
@@ -118,7 +119,7 @@ filled s xnext nextrec nex =
       gex = d .gex;
     }
 
--- the refusal, by rules 3 to 11, of a file of so many bytes with these numbers and addresses
+-- the refusal, by rules 2 to 11, of a file of so many bytes with these numbers and addresses
 abbrev pub numbersRefusal : ℕ → DescriptorNumbers → List RecordNumber → ℕ
 numbersRefusal bytes d addresses = refusalIn (settingRules bytes d ++ fillingRules bytes d addresses)
 
@@ -162,36 +163,36 @@ examples =
     -- it opens with version 1, nsec 1, nword 24, adata 20, ldata 5
     P 1 (openOf A (entry 1) .answer) (opensAt (at 3 1) 1 1 24 20 5) ∷
     -- its words: these with xnum 1; identifier 7, length 3, address 17; the section and the data
-    P 1 (wordsAt A 3 1 16) (entryHead 1 1 24 20 5 1 ++ word 7 ++ twoWords 3 ++ twoWords 17) ∷
+    P 1 (wordsAt A 3 1 16) (entryHead little 1 1 24 20 5 1 ++ word 7 ++ twoWords 3 ++ twoWords 17) ∷
     P 1 (wordsAt A 3 17 8) (following 0 12 ++ following 100 20) ∷
     -- of two sections: both identifiers, both lengths, both addresses. The first address is 12 + 5 × 2
     P 1 (wordsAt twoSections 3 12 10) (word 7 ++ word 9 ++ twoWords 3 ++ twoWords 1 ++ twoWords 22 ++ twoWords 25) ∷
     -- entry 2's index is at record 2 word 5
     P 2 (indexAt A 2) (at 2 5) ∷
     -- the words of record 2, area 1: the index of entry 1, which starts at record 3 word 1; of entry 2, at record 4 word 5; the unused words are zero
-    P 2 (wordsAt A 2 1 4) (slot 3 1 (following 200 4)) ∷
-    P 2 (wordsAt A 2 5 4) (slot 4 5 (following 210 4)) ∷
+    P 2 (wordsAt A 2 1 4) (slot little 3 1 (following 200 4)) ∷
+    P 2 (wordsAt A 2 5 4) (slot little 4 5 (following 210 4)) ∷
     P 2 (wordsAt A 2 9 12) (zeroWords 12) ∷
     -- after (2) next is record 4 word 16
     P 3 (nextIn (after2 6)) (at 4 16) ∷
     -- entry 2 and its words: version 1, nsec 0, nword 11, adata 0, ldata 0; xnum 2
     P 3 (openOf A (entry 2) .answer) (opensAt (at 4 5) 1 0 11 0 0) ∷
-    P 3 (wordsAt A 4 5 11) (entryHead 1 0 11 0 0 2) ∷
+    P 3 (wordsAt A 4 5 11) (entryHead little 1 0 11 0 0 2) ∷
     -- after (3) aex 2 and 5, next record 6 word 12
     P 4 (validationOf A .addresses) (aex 2 ∷ aex 5 ∷ replicate 14 (aex 0)) ∷
     P 4 (nextIn A) (at 6 12) ∷
     -- the first record as created: xnext 1, nextrec 2, nextword 1, nex 0, no address. The bytes behind it, 81 to 480, stay
-    P 4 (wordsAt (created 6) 1 1 20) (firstRecord 1 2 1 0 0 0) ∷
+    P 4 (wordsAt (created 6) 1 1 20) (firstRecord little 1 2 1 0 0 0) ∷
     P 4 (wordsAt (created 6) 2 1 100) (following 81 174 ++ following 0 226) ∷
     -- the first record after (3): xnext 4, nextrec 6, nextword 12, nex 2, aex 2 and 5
-    P 4 (wordsAt A 1 1 20) (firstRecord 4 6 12 2 2 5) ∷
+    P 4 (wordsAt A 1 1 20) (firstRecord little 4 6 12 2 2 5) ∷
     -- the words skipped before record 5, area 2, are zero; in it the index of entry 3, which starts at record 6 word 1; the unused words are zero
     P 4 (wordsAt A 4 16 5) (zeroWords 5) ∷
-    P 4 (wordsAt A 5 1 4) (slot 6 1 (following 220 4)) ∷
+    P 4 (wordsAt A 5 1 4) (slot little 6 1 (following 220 4)) ∷
     P 4 (wordsAt A 5 5 16) (zeroWords 16) ∷
     -- entry 3 and its words: version 1, nsec 0, nword 11, adata 0, ldata 0; xnum 3. The bytes behind it, 445 to 480, stay
     P 4 (openOf A (entry 3) .answer) (opensAt (at 6 1) 1 0 11 0 0) ∷
-    P 4 (wordsAt A 6 1 11) (entryHead 1 0 11 0 0 3) ∷
+    P 4 (wordsAt A 6 1 11) (entryHead little 1 0 11 0 0 3) ∷
     P 4 (wordsAt A 6 12 9) (following 190 36) ∷
     -- A with 5 records: append (3) gives 24; with 6 it does not
     P 5 (appendOf (after2 5) append3 .refusal) 24 ∷
@@ -220,6 +221,7 @@ examples =
     P 11 (fileRefusal (imageWith 480 (settings 20 3 2 20))) 0 ∷
     P 11 (creationRefusal 480 (settings 20 2 2 20)) 6 ∷
     P 11 (creationRefusal 480 (settings 20 3 2 20)) 0 ∷
-    -- eight bytes FF are -1
-    P 12 (signedAt integer8 (replicate 8 0xFF) 0) (negℤ (pos 1)) ∷
+    -- eight bytes FF are -1, in either order
+    P 12 (signedAt (record { 0 = 0 }) integer8 (replicate 8 0xFF) 0) (negℤ (pos 1)) ∷
+    P 12 (signedAt (record { 0 = 1 }) integer8 (replicate 8 0xFF) 0) (negℤ (pos 1)) ∷
     []

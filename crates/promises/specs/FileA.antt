@@ -1,7 +1,7 @@
 -- File A of 01, "Examples worked by hand": its settings, what is appended to it, the buffer that it is made in, and the file after each call.
 use Prim.Native.Nat.{ℕ, _+_, _*_, _%_}
 use mathlib.Core.List.{List, [], _∷_, map}
-use lib.IntN.{pos}
+use lib.IntN.{ℤ, pos}
 use Rattle.geometry.specs.Units.{offsetOf}
 use Rattle.descriptor.specs.declared.numbers.Settings.{Settings}
 use Rattle.writer.specs.Creation.{createdFile}
@@ -9,9 +9,10 @@ use Rattle.storing.specs.Handed.{Handed, handedIn}
 use Rattle.writer.specs.Answers.{fileAfter}
 use Rattle.promises.specs.Calls.{following}
 
--- settings by reclen, lind, lex1 and gex; the others are A's in every case: kind 1, vind 2, flags 0
-abbrev pub settings : ℕ → ℕ → ℕ → ℕ → Settings
-settings reclen lind lex1 gex = record {
+-- settings by order, reclen, lind, lex1 and gex; the others are A's in every case: kind 1, vind 2, flags 0
+abbrev pub settingsIn : ℤ → ℕ → ℕ → ℕ → ℕ → Settings
+settingsIn order reclen lind lex1 gex = record {
+  order = order;
   reclen = pos reclen;
   kind = pos 1;
   vind = pos 2;
@@ -20,6 +21,10 @@ settings reclen lind lex1 gex = record {
   lex1 = pos lex1;
   gex = pos gex;
 }
+
+-- those of a little-endian file
+abbrev pub settings : ℕ → ℕ → ℕ → ℕ → Settings
+settings reclen lind lex1 gex = settingsIn (pos 0) reclen lind lex1 gex
 
 -- append (1): version 1, identifier 7 of 3 words, 5 data words; one index word. The section's bytes are 1 to 12, the data's 101 to 120
 abbrev pub append1 : Handed
@@ -56,6 +61,14 @@ after3 records = fileAfter (after2 records) append3
 -- A itself, of 6 records
 abbrev pub A : List ℕ
 A = after3 6
+
+-- A in the big order, as it is created
+abbrev pub bigCreated : List ℕ
+bigCreated = createdFile (lent 6) (settingsIn (pos 1) 20 4 2 20)
+
+-- and after the three appends
+abbrev pub bigA : List ℕ
+bigA = fileAfter (fileAfter (fileAfter bigCreated append1) append2) append3
 
 -- the created file after another append, of two sections: identifiers 7 and 9 of 3 words and 1, no data
 abbrev pub twoSections : List ℕ

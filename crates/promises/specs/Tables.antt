@@ -24,7 +24,7 @@ use Rattle.writer.specs.Rules.{appendRules}
 abbrev pub validateTests : List ℕ → List Rule
 validateTests file = fileRules file (numbersOf file) (addressesOf file (numbersOf file .nex))
 
--- creation tests 1, 3 to 8 on its settings, with nex 0
+-- creation tests 1 to 8 on its settings, with nex 0
 abbrev pub createTests : ℕ → Settings → List Rule
 createTests bytes settings = creationRules bytes (createdOf settings)
 

@@ -30,6 +30,7 @@ use classic::open_entry;
 use classic::section;
 use classic::section_place;
 use classic::section_refusal;
+use words::ByteOrder;
 ghost use Prim.Native.Nat.{_+_, _<_, _≤_};
 ghost use lib.ListN.{length};
 
@@ -112,21 +113,22 @@ pub(crate) fn tabled(name: &[u8], file: &[u8], asked: u64) {
     end(name);
 }
 
-// The number that the bytes of a word are in the order of the file.
-fn in_order(word: u32) -> u64 {
+// The number whose hexadecimal digits spell the bytes of a word as they stand.
+fn spelled(word: u32) -> u64 {
     let bits = word as u64;
     bits % 256 * 16777216 + bits / 256 % 256 * 65536 + bits / 65536 % 256 * 256 + bits / 16777216
 }
 
-// Writes a word behind a space: below 2^24 as a number, any other as x and its four bytes in the order of the file.
+// Writes a word behind a space: below 2^24 in the little order as that number, any other as x and its four bytes as they
+// stand.
 fn word(bytes: &[u8], at: usize)
     requires { ⌜ at + 4 ≤ length (now bytes) ⌝ }
 {
-    let bits = words::u32_at(bytes, at);
+    let bits = words::u32_at(ByteOrder(0), bytes, at);
     if bits < 0x100_0000 {
         print(WORD, 0, bytes, bits as u64, 0, 0, 0);
     } else {
-        print(WORD, 1, bytes, in_order(bits), 0, 0, 0);
+        print(WORD, 1, bytes, spelled(bits), 0, 0, 0);
     }
 }
 

@@ -6,6 +6,7 @@ use super::reading::bytes_before;
 use super::reading::bytes_of;
 use super::reading::int4;
 use super::reading::least;
+use words::ByteOrder;
 ghost use Prim.Native.Nat.{_+_, _≤_};
 ghost use mathlib.Core.Path.{_≡_};
 ghost use lib.ListN.{length};
@@ -93,19 +94,31 @@ pub(crate) fn fill(room: &mut [u8], count: usize, byte: u64)
     }
 }
 
+// The order in which numbers are written over a file: big where the second byte is that of a big file's code, also in a
+// code that is neither.
+fn order_of(file: &[u8]) -> ByteOrder {
+    ByteOrder((byte_at(file, 1) == 0x42) as u64)
+}
+
 // Writes a number of 1, 4 or 8 bytes at an offset.
-fn put_one(file: &mut [u8], at: usize, width: usize, bits: u64)
+fn put_one(order: ByteOrder, file: &mut [u8], at: usize, width: usize, bits: u64)
     requires { ⌜ at + 8 ≤ length (now file) ⌝ }
 {
     match width {
         1 => file[at] = (bits % 256) as u8,
-        4 => words::put_i32(file, at, int4(bits)),
-        _ => words::put_u64(file, at, bits),
+        4 => words::put_i32(order, file, at, int4(bits)),
+        _ => words::put_u64(order, file, at, bits),
     }
 }
 
 // Writes the numbers of a list one after another.
-pub(crate) fn put_all(file: &mut [u8], from: usize, width: usize, values: &[i64]) {
+pub(crate) fn put_all(
+    order: ByteOrder,
+    file: &mut [u8],
+    from: usize,
+    width: usize,
+    values: &[i64],
+) {
     let mut at = from;
     for i in 0..values.len() {
         if file.len() < 8 {
@@ -114,18 +127,19 @@ pub(crate) fn put_all(file: &mut [u8], from: usize, width: usize, values: &[i64]
         if file.len() - 8 < at {
             return wrong();
         }
-        put_one(file, at, width, bits_at(values, i));
+        put_one(order, file, at, width, bits_at(values, i));
         at = std::num::wrapping_add_usize(at, width);
     }
 }
 
-// Writes the numbers of a list but the first, which is their place, over the lent bytes.
+// Writes the numbers of a list but the first, which is their place, over the lent bytes, in the order of the file.
 pub(crate) fn put(room: &mut [u8], lent: usize, at: usize, width: usize, values: &[i64])
     requires { ⌜ lent ≤ length (now room) ⌝ }
 {
     if values.len() < 2 {
         wrong();
     } else {
-        put_all(&mut room[0..lent], at, width, &values[1..]);
+        let order = order_of(room);
+        put_all(order, &mut room[0..lent], at, width, &values[1..]);
     }
 }

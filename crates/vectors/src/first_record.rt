@@ -38,17 +38,17 @@ fn addresses(name: &[u8], table: [RecordNumber; 16]) {
 
 // Writes the numbers of a descriptor.
 fn numbers(name: &[u8], d: DescriptorNumbers, table: [RecordNumber; 16]) {
-    print(DESCRIBE, 0, name, d.reclen, d.kind, d.vind, d.lind);
+    print(DESCRIBE, 0, name, d.order.0, d.reclen, d.kind, d.vind);
     print(
         DESCRIBE_ON,
         0,
         name,
+        d.lind,
         d.flags,
         d.xnext.0,
         d.nextrec.0,
-        d.nextword.0,
     );
-    print(DESCRIBE_END, 0, name, d.lex1, d.nex, d.gex, 0);
+    print(DESCRIBE_END, 0, name, d.nextword.0, d.lex1, d.nex, d.gex);
     addresses(name, table);
 }
 

@@ -1,5 +1,5 @@
-// The calls of the library run on file A of the scope of work, on P5 to P12, and on both sides of every bound, one line a
-// case. The cases are the script on standard input; their lines are held to the file stdout.
+// The calls of the library run on file A of the scope of work, on P5 to P12, and on both sides of every bound, in files of
+// both orders, one line a case. The cases are the script on standard input; their lines are held to the file stdout.
 mod answers;
 mod every;
 mod files;
@@ -83,7 +83,7 @@ fn takes(command: usize, count: usize, more: bool) -> bool {
         2 | 3 => more && count == 0,
         8 => count == 4,
         4 | 5 | 6 => !more,
-        7 => !more && count == 7,
+        7 => !more && count == 8,
         0 | 16 | 19 => !more && count == 2,
         10 | 11 | 18 => !more && count == 0,
         1 | 9 | 12 | 13 | 14 | 15 | 17 => !more && count == 1,

@@ -122,9 +122,9 @@ fn chosen(form: usize, refusal: u64) -> usize {
 pub(crate) fn print(form: usize, refusal: u64, name: &[u8], a: u64, b: u64, c: u64, d: u64) {
     let forms = b"\
         validate %: admitted\n|validate %: refused R\n|\
-        validate %: reclen A kind B vind C lind D|| \
-        flags A xnext B nextrec C nextword D|| \
-        lex1 A nex B gex C aex||\
+        validate %: order A reclen B kind C vind D|| \
+        lind A flags B xnext C nextrec D|| \
+        nextword A lex1 B nex C gex D aex||\
         extension %: capacity A first B records C\n|extension %: refused R\n|\
         open %: record A word B version C|open %: refused R\n| \
         nsec A nword B adata C ldata D\n||\

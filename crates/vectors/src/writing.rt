@@ -20,6 +20,7 @@ use classic::Settings;
 use classic::append;
 use classic::create;
 use classic::validate;
+use words::ByteOrder;
 ghost use Prim.Native.Nat.{_≤_};
 ghost use mathlib.Core.Path.{_≡_};
 ghost use lib.ListN.{length};
@@ -29,16 +30,17 @@ fn int4_at(values: &[i64], i: usize) -> i32 {
     int4(bits_at(values, i))
 }
 
-// The settings in the order of the first record.
+// The settings as the first record has them, from its code on.
 fn settings(values: &[i64]) -> Settings {
     Settings {
-        reclen: int4_at(values, 0),
-        kind: int4_at(values, 1),
-        vind: int4_at(values, 2),
-        lind: int4_at(values, 3),
-        flags: int4_at(values, 4),
-        lex1: int4_at(values, 5),
-        gex: int4_at(values, 6),
+        order: int4_at(values, 0),
+        reclen: int4_at(values, 1),
+        kind: int4_at(values, 2),
+        vind: int4_at(values, 3),
+        lind: int4_at(values, 4),
+        flags: int4_at(values, 5),
+        lex1: int4_at(values, 6),
+        gex: int4_at(values, 7),
     }
 }
 
@@ -71,7 +73,7 @@ pub(crate) fn create_in(values: &[i64], name: &[u8], room: &mut [u8], lent: usiz
     save(room, lent);
     let refusal = create(&mut room[0..lent], settings(values));
     if name.len() != 0 || refusal != 0 {
-        created(name, refusal, bits_at(values, 0), room, lent);
+        created(name, refusal, bits_at(values, 1), room, lent);
     }
 }
 
@@ -112,12 +114,12 @@ fn size(bits: u64) -> usize
     }
 }
 
-// Reads the words listed, those of the index, the sections and the data, as bytes.
+// Reads the words listed, those of the index, the sections and the data, as bytes, the least significant first.
 fn listed_words(lists: &[u8], at: usize, bytes: &mut [u8]) {
     let mut values = [0i64; 66];
     let read = labelled(lists, at, 2, &mut values);
     let count = read.count;
-    put_all(bytes, 0, 4, &values[0..count]);
+    put_all(ByteOrder(0), bytes, 0, 4, &values[0..count]);
     if read.next != lists.len() {
         wrong();
     }

@@ -10,7 +10,7 @@ use lib.ListN.{length, getD, take, drop, length-reverse}
 use Rattle.outcome.proofs.Either.{either}
 use Rattle.image.specs.Image.{part}
 use Rattle.words.specs.declared.order.ByteOrder.{ByteOrder}
-use Rattle.words.specs.Word.{littleNumber, littleNumeral, inOrder, number, numeral}
+use Rattle.words.specs.Word.{littleNumber, littleNumeral, arranged, number, numeral}
 
 -- ---- the least significant byte first
 
@@ -76,27 +76,27 @@ numeral-back (b ∷ bs) h =
 
 -- ---- in either order
 
-in-order-twice : (o : ByteOrder) (bs : List ℕ) → inOrder o (inOrder o bs) ≡ bs
-unfolding inOrder
-in-order-twice o bs = either (eqb (o .0) 0) (λ e. rw e) (λ e. rw e (reverse-reverse bs))
+arranged-twice : (o : ByteOrder) (bs : List ℕ) → arranged o (arranged o bs) ≡ bs
+unfolding arranged
+arranged-twice o bs = either (eqb (o .0) 0) (λ e. rw e) (λ e. rw e (reverse-reverse bs))
 
-length-in-order : (o : ByteOrder) (bs : List ℕ) → length (inOrder o bs) ≡ length bs
-unfolding inOrder
-length-in-order o bs = either (eqb (o .0) 0) (λ e. rw e) (λ e. rw e (length-reverse bs))
+length-arranged : (o : ByteOrder) (bs : List ℕ) → length (arranged o bs) ≡ length bs
+unfolding arranged
+length-arranged o bs = either (eqb (o .0) 0) (λ e. rw e) (λ e. rw e (length-reverse bs))
 
-bytes-in-order : (o : ByteOrder) (bs : List ℕ) → Bytes bs → Bytes (inOrder o bs)
-unfolding inOrder
-bytes-in-order o bs h = either (eqb (o .0) 0) (λ e. rw e h) (λ e. rw e (bytes-onto bs [] h tt))
+bytes-arranged : (o : ByteOrder) (bs : List ℕ) → Bytes bs → Bytes (arranged o bs)
+unfolding arranged
+bytes-arranged o bs h = either (eqb (o .0) 0) (λ e. rw e h) (λ e. rw e (bytes-onto bs [] h tt))
 
 -- a number in n bytes has n bytes
 pub length-numeral : (o : ByteOrder) (n x : ℕ) → length (numeral o n x) ≡ n
 unfolding numeral
-length-numeral o n x = length-in-order o (littleNumeral n x) ∙ length-little n x
+length-numeral o n x = length-arranged o (littleNumeral n x) ∙ length-little n x
 
 -- the number of the bytes of a number is that number
 pub number-numeral : (o : ByteOrder) (n x : ℕ) → x < 256 ^ n → number o (numeral o n x) ≡ x
 unfolding number numeral
-number-numeral o n x h = ap littleNumber (in-order-twice o (littleNumeral n x)) ∙ little-back n x h
+number-numeral o n x h = ap littleNumber (arranged-twice o (littleNumeral n x)) ∙ little-back n x h
 
 -- ---- bytes turned by their number: the number of their little-endian reading, and the little-endian bytes of their number
 
@@ -108,16 +108,16 @@ number-turned o bs n h e = subst (λ (k : ℕ). number o (littleNumeral k (littl
 pub numeral-turned : (o : ByteOrder) (n x : ℕ) → littleNumeral n (number o (littleNumeral n x)) ≡ numeral o n x
 unfolding number numeral
 numeral-turned o n x =
-    let bs = inOrder o (littleNumeral n x) in
-    subst (λ (k : ℕ). littleNumeral k (littleNumber bs) ≡ bs) (length-in-order o (littleNumeral n x) ∙ length-little n x)
-    (numeral-back bs (bytes-in-order o (littleNumeral n x) (bytes-numeral n x)))
+    let bs = arranged o (littleNumeral n x) in
+    subst (λ (k : ℕ). littleNumeral k (littleNumber bs) ≡ bs) (length-arranged o (littleNumeral n x) ∙ length-little n x)
+    (numeral-back bs (bytes-arranged o (littleNumeral n x) (bytes-numeral n x)))
 
 -- the little order turns nothing
 pub number-little : (o : ByteOrder) (n x : ℕ) → eqb (o .0) 0 ≡ true → x < 256 ^ n → number o (littleNumeral n x) ≡ x
-unfolding number inOrder
+unfolding number arranged
 number-little o n x e h = rw e (little-back n x h)
 
 -- the big one turns the bytes round
 pub number-big : (o : ByteOrder) (bs : List ℕ) → eqb (o .0) 0 ≡ false → number o bs ≡ littleNumber (reverse bs)
-unfolding number inOrder
+unfolding number arranged
 number-big o bs e = rw e

@@ -27,17 +27,17 @@ unfoldable pub littleNumeral : ℕ → ℕ → List ℕ
 littleNumeral zero x = []
 littleNumeral (suc n) x = x % 256 ∷ littleNumeral n (x / 256)
 
--- bytes with the least significant first, put in an order: the little one (0) leaves them, the big one turns them round; and back
-unfoldable pub inOrder : ByteOrder → List ℕ → List ℕ
-inOrder o bytes = cond (eqb (o .0) 0) bytes (reverse bytes)
+-- bytes with the least significant first, arranged in an order: the little one (0) leaves them, the big one turns them round; and back
+unfoldable pub arranged : ByteOrder → List ℕ → List ℕ
+arranged o bytes = cond (eqb (o .0) 0) bytes (reverse bytes)
 
 -- the number that bytes in an order stand for
 unfoldable pub number : ByteOrder → List ℕ → ℕ
-number o bytes = littleNumber (inOrder o bytes)
+number o bytes = littleNumber (arranged o bytes)
 
 -- the n bytes that stand for a number in an order
 unfoldable pub numeral : ByteOrder → ℕ → ℕ → List ℕ
-numeral o n x = inOrder o (littleNumeral n x)
+numeral o n x = arranged o (littleNumeral n x)
 
 -- two's complement: bits below half the range are their own value, the others are their value less the range
 -- (signed-low and signed-high, in proofs/Signed.antt)

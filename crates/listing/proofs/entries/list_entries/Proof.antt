@@ -35,7 +35,7 @@ list-entries-spec =
     (λ c.
     let s = c .before .before .before in
     let file = s .args .file .now in
-    omega (arith, rows-short file (s .args .d) (s .args .addresses), c .rows-length .ensures, entries-room (length file) (s .args .d) (s .args .addresses) (s .pre), s .pre .lent .high))
+    omega (arith, rows-short file (s .args .d) (s .args .addresses), c .rows-length .ensures, entries-room (length file) (s .args .d) (s .args .addresses) (s .pre .admitted), s .pre .admitted .lent .high))
     (λ c. left-alone _ _ (omega (arith, measured (c .before))))
     (λ c. search needs) (λ c κs. search needs) (λ c κs. search needs) (λ c. search needs)
     returns-2)

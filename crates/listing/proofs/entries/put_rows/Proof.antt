@@ -63,7 +63,7 @@ put-rows-spec =
     (tie.spec
     Inv-loop
     μ-loop
-    (λ c κs. c .before .before .pre .0 .counted)
+    (λ c κs. c .before .before .pre .0 .admitted .counted)
     (λ c. let q : c .entries-before .result - 0 ≡ c .entries-before .result = omega arith in (omega arith, refl, rw q (λ b o w. w)))
     (λ c. omega arith)
     (λ c κs. c .before .before .before .before .before .pre .0)

@@ -33,7 +33,7 @@ add-sum c =
     let s = l .before .before .before in
     let n = l .before .entries-before in
     let all = rw (← (n .ensures)) at (rows-short (s .args .file .now) (s .args .d) (s .args .addresses)) in
-    omega (arith, more c, all, entries-room (length (s .args .file .now)) (s .args .d) (s .args .addresses) (s .pre), n .ensures, s .pre .lent .high)
+    omega (arith, more c, all, entries-room (length (s .args .file .now)) (s .args .d) (s .args .addresses) (s .pre .admitted), n .ensures, s .pre .admitted .lent .high)
 
 returns : tie.Need-returns Inv-loop μ-loop
 unfolding rowsFrom
@@ -49,7 +49,7 @@ rows-length-spec =
     (tie.spec
     Inv-loop
     μ-loop
-    (λ c κs. c .before .pre .counted)
+    (λ c κs. c .before .pre .admitted .counted)
     (λ c. let q : c .entries-before .result - 0 ≡ c .entries-before .result = omega arith in (omega arith, rw q (omega arith)))
     (λ c. omega arith)
     (λ c κs. c .before .before .before .before .pre)

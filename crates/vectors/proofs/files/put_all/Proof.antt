@@ -7,10 +7,10 @@ use Rattle.vectors.proofs.files.put_all.Statement.{statement}
 use Rattle.vectors.proofs.files.put_all.Tie as tie
 
 abbrev Inv-loop : tie.InvT-loop
-Inv-loop file₀ from width values at₀ i₀ i-end file at i = (i ≤ i-end) × (i-end ≡ length values) × (length file ≡ length file₀)
+Inv-loop order file₀ from width values at₀ i₀ i-end file at i = (i ≤ i-end) × (i-end ≡ length values) × (length file ≡ length file₀)
 
 abbrev μ-loop : tie.MeasureT-loop
-μ-loop file₀ from width values at₀ i₀ i-end file at i = i-end - i
+μ-loop order file₀ from width values at₀ i₀ i-end file at i = i-end - i
 
 pub put-all-spec : {M : Type 1} → statement M
 put-all-spec =
