@@ -3,7 +3,7 @@ use geometry::EntryNumber;
 use geometry::RecordNumber;
 use geometry::WordNumber;
 use geometry::first_record_offset;
-use layout::file_code::byte_order;
+use layout::file_code::byte_order_of;
 use layout::first_record;
 use words::ByteOrder;
 ghost use mathlib.Core.Path.{_≡_};
@@ -95,7 +95,7 @@ pub(crate) fn numbers_of(file: &[u8]) -> DescriptorNumbers
     requires { ⌜ 64 ≤ length (now file) ⌝ }
     ensures { λ r. ⌜ Answers (numbersOf (now (file .entry))) r ⌝ }
 {
-    let order = byte_order(file);
+    let order = byte_order_of(file);
     DescriptorNumbers {
         order,
         reclen: field4_at(order, file, first_record::RECLEN),

@@ -7,7 +7,7 @@ use lib.Dec.{eqb}
 use lib.ListN.{length}
 use Rattle.outcome.proofs.Either.{either}
 use Rattle.image.specs.Image.{part}
-use Rattle.words.specs.declared.order.ByteOrder.{ByteOrder}
+use Rattle.words.specs.declared.byte_order.ByteOrder.{ByteOrder}
 use Rattle.words.specs.Code.{sameBytes}
 use Rattle.layout.specs.FileCode.{fileCode, orderSaid, fileCodeOf, byteOrderOf}
 

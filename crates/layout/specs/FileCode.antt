@@ -4,7 +4,7 @@ use mathlib.Core.Bool.{cond}
 use mathlib.Core.List.{List, [], _∷_}
 use lib.Dec.{eqb}
 use Rattle.image.specs.Image.{part}
-use Rattle.words.specs.declared.order.ByteOrder.{ByteOrder}
+use Rattle.words.specs.declared.byte_order.ByteOrder.{ByteOrder}
 use Rattle.words.specs.Code.{sameBytes}
 use Rattle.geometry.specs.Units.{firstRecordOffsetOf}
 use Rattle.layout.specs.FirstRecordWords.{fileCodeWord}

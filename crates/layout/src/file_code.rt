@@ -21,7 +21,7 @@ pub fn file_code(order: ByteOrder) -> [u8; 4]
 }
 
 // The order that a file's code says, or 2 where it is none of the two codes.
-pub fn byte_order(file: &[u8]) -> ByteOrder
+pub fn byte_order_of(file: &[u8]) -> ByteOrder
     requires { ⌜ 4 ≤ length (now file) ⌝ }
     ensures { λ r. ⌜ Answers (byteOrderOf (now (file .entry))) r ⌝ }
 {

@@ -6,7 +6,8 @@ use native.Mathlib.Omega.{arith}
 use lib.ListN.{length}
 use Rattle.geometry.specs.Units.{entriesBefore}
 use Rattle.descriptor.specs.FirstRecord.{numbersOf, addressesOf}
-use Rattle.descriptor.proofs.Answered.{answer-numbers}
+use Rattle.layout.specs.FileCode.{byteOrderOf}
+use Rattle.descriptor.proofs.Answered.{answer-numbers, file-order}
 use Rattle.storing.specs.Handed.{Handed, Integers}
 use Rattle.writer.specs.Rules.{appendRefusal}
 use Rattle.writer.specs.Answers.{fileAfter}
@@ -33,20 +34,23 @@ module _ (file : List ℕ) (h : Handed) (g : Integers h) (s : Sound file) (a : a
   abbrev x : Accepted (length file) (numbersOf file) (addressesOf file (numbersOf file .nex)) h
   x = admits file h (s .admitted) a
 
+  abbrev order : numbersOf file .order ≡ byteOrderOf file
+  order = file-order file
+
   after-file : fileAfter file h ≡ new file x
   after-file = file-written file h (s .admitted) a
 
   -- the file is sound again
   pub append-sound : Sound (fileAfter file h)
-  append-sound = rw after-file (sound-shown (validated-after file (s .admitted) x) (opens-then file x (s .inside)) (spread-then file x (s .inside) (g .version)))
+  append-sound = rw after-file (sound-shown (validated-after file (s .admitted) x) (opens-then file x order (s .inside)) (spread-then file x order (s .inside) (g .version)))
 
   -- an entry that was there is unchanged
   pub append-stays : (k : ℕ) → 1 ≤ k → k ≤ n → Unchanged file (fileAfter file h) (record { 0 = k })
-  append-stays k l m = rw after-file (unchanged-there (answer-numbers file (s .admitted)) (validated-after file (s .admitted) x) (entry-agrees file x (s .inside) k l m))
+  append-stays k l m = rw after-file (unchanged-there (answer-numbers file (s .admitted)) (validated-after file (s .admitted) x) (entry-agrees file x order (s .inside) k l m))
 
   -- a number up to n finds what it found
   reading-old : (k : ℕ) → 1 ≤ k → k ≤ n → found (new file x) k ≡ found file k
-  reading-old k l m = reading-there (answer-numbers file (s .admitted)) (validated-after file (s .admitted) x) (entry-agrees file x (s .inside) k l m)
+  reading-old k l m = reading-there (answer-numbers file (s .admitted)) (validated-after file (s .admitted) x) (entry-agrees file x order (s .inside) k l m)
 
   -- so the contents are those before, and then what was handed in
   pub append-contents : contents (fileAfter file h) ≡ contents file ++ (holds (handedContent h) ∷ [])

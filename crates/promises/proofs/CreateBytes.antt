@@ -12,6 +12,7 @@ use Rattle.image.proofs.Part.{part-part}
 use Rattle.image.proofs.Splice.{length-zeros}
 use Rattle.image.proofs.Writes.{length-writes, follow-read}
 use Rattle.words.proofs.Number.{length-numeral}
+use Rattle.layout.proofs.FileCodes.{length-code}
 use Rattle.descriptor.specs.declared.numbers.Settings.{Settings}
 use Rattle.descriptor.specs.declared.numbers.DescriptorNumbers.{DescriptorNumbers}
 use Rattle.descriptor.specs.FirstRecord.{createdOf}
@@ -43,7 +44,7 @@ module _ (file : List ℕ) (d : DescriptorNumbers) (low : 14 ≤ d .reclen) (roo
   same-there : inFields 1 14 i ≡ false → inFields 15 rest i ≡ false → byteAt new i ≡ byteAt file i
   same-there fields behind =
       byte-same new file i i
-      (follow-keep i 1 file 0 (56 + 4 * rest) (firstWrites d) (first-follows d) (simp (length-append, length-numeral, length-zeros) (omega arith))
+      (follow-keep i 1 file 0 (56 + 4 * rest) (firstWrites d) (first-follows d) (simp (length-append, length-numeral, length-code, length-zeros) (omega arith))
       (beside-both i 0 56 56 (4 * rest) (56 + 4 * rest) refl refl (uncovered 0 14 i fields) (uncovered 56 rest i behind)))
 
   created-byte : Says (firstOf (createClasses (d .reclen) i)) (byteAt file i) (byteAt new i)

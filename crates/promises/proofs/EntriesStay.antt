@@ -24,6 +24,7 @@ use Rattle.storing.specs.Handed.{Handed}
 use Rattle.storing.specs.Bounds.{Accepted}
 use Rattle.placing.proofs.Places.{nex-more}
 use Rattle.written.proofs.AppendLeaves.{new, then, areasThen, slot, left, slot-stays}
+use Rattle.written.proofs.FirstRecordAfter.{order-kept}
 use Rattle.written.proofs.Frame.{Beside, frame}
 use Rattle.promises.proofs.Areas.{areas-order, area-holds}
 use Rattle.promises.proofs.Spread.{opened-behind, opened-free}
@@ -67,6 +68,7 @@ module _ (file : List ℕ) {d : DescriptorNumbers} {addresses : List RecordNumbe
           described = record {
             admitted = x .admitted;
             opens = opens;
+            order = order-kept file x;
             reclen = l .reclen;
             lind = l .lind;
             entries = omega arith;

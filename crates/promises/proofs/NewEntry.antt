@@ -10,7 +10,9 @@ use lib.ListN.{length, getD, take}
 use Rattle.geometry.specs.Units.{placeOf}
 use Rattle.descriptor.specs.declared.numbers.DescriptorNumbers.{DescriptorNumbers}
 use Rattle.descriptor.specs.FirstRecord.{numbersOf, addressesOf}
+use Rattle.layout.specs.FileCode.{byteOrderOf}
 use Rattle.descriptor.specs.Rules.{fileRefusal}
+use Rattle.descriptor.proofs.Answered.{file-order}
 use Rattle.entry.specs.declared.answers.Opened.{Opened}
 use Rattle.entry.specs.declared.entered.Entered.{Entered}
 use Rattle.layout.specs.EntryWords.{firstContent}
@@ -39,11 +41,14 @@ module _ (file : List ℕ) (h : Handed) (g : Integers h) (z : fileRefusal file �
   abbrev x : Accepted (length file) d (addressesOf file (d .nex)) h
   x = admits file h z a
 
-  here : OpenEntry (new file x) (then file x) (areasThen file x) (d .xnext)
-  here = record { shown = validated-after file z x; admitted = rw (left file x .size) (left file x .admitted); opens = not-refused file x }
+  abbrev order : d .order ≡ byteOrderOf file
+  order = file-order file
 
-  here-is : stored here ≡ record { refusal = 0; place = placeOf (d .reclen) (entryStart d); start = entryStart d; version = h .version; nsec = nsecIn h; nword = nwordIn h; array = array file x }
-  here-is = sym (entered-numbers (new file x) (then file x) (areasThen file x) (d .xnext) (here .opens)) ∙ entered-new file x (g .version)
+  here : OpenEntry (new file x) (then file x) (areasThen file x) (d .xnext)
+  here = record { shown = validated-after file z x; admitted = rw (left file x .size) (left file x .admitted); opens = not-refused file x order }
+
+  here-is : stored here ≡ record { refusal = 0; place = placeOf (d .reclen) (entryStart d); start = entryStart d; version = h .version; nsec = nsecIn h; nword = nwordIn h; array = array file x order }
+  here-is = sym (entered-numbers (new file x) (then file x) (areasThen file x) (d .xnext) (here .opens)) ∙ entered-new file x order (g .version)
 
   -- its section at place k is the k-th that was handed in
   section-new-read : (k : ℕ) → 1 ≤ k → k ≤ nsecIn h → sectionRead (new file x) (d .xnext) k ≡ sectionAt (h .ids) (h .lengths) (h .sections) (k - 1)
@@ -55,7 +60,7 @@ module _ (file : List ℕ) (h : Handed) (g : Integers h) (z : fileRefusal file �
       let q : at + n - at ≡ n = omega arith in
       section-shown here k l (omega (arith, ap (λ (y : Entered). y .nsec) here-is))
       ∙ ap (λ (y : Entered). sectionIn (new file x) y i) here-is
-      ∙ rw (identifier-new file x i low (g .ids i low), section-new file x i low, q, section-read file x i low)
+      ∙ rw (identifier-new file x order i low (g .ids i low), section-new file x order i low, q, section-read file x order i low)
 
   content-new : contentRead (fileAfter file h) (d .xnext) ≡ handedContent h
   unfolding contentRead handedContent

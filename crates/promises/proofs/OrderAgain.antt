@@ -11,6 +11,7 @@ use Rattle.geometry.specs.declared.growth.Growth.{Growth}
 use Rattle.geometry.specs.declared.area.Slot.{Slot}
 use Rattle.geometry.specs.Units.{entriesBefore}
 use Rattle.geometry.proofs.Slots.{Stands, holder-only}
+use Rattle.layout.specs.FileCode.{byteOrderOf}
 use Rattle.descriptor.specs.declared.numbers.DescriptorNumbers.{DescriptorNumbers}
 use Rattle.descriptor.specs.FirstRecord.{growthIn}
 use Rattle.descriptor.proofs.Fitting.{fit-reach, fit-full}
@@ -22,6 +23,7 @@ use Rattle.writer.specs.Answers.{fileAfter}
 use Rattle.storing.specs.Bounds.{Accepted}
 use Rattle.written.proofs.Cases.{split, by-last}
 use Rattle.written.proofs.AppendLeaves.{new, then, areasThen, left, slot-same, area-from, area-to, area-new, by-area}
+use Rattle.descriptor.proofs.Answered.{file-order}
 use Rattle.written.proofs.ReadBack.{admits, file-written, validated-after}
 use Rattle.promises.specs.Calls.{Call, append, AllFit, run}
 use Rattle.promises.specs.Regions.{SoundIn}
@@ -36,7 +38,7 @@ use Rattle.promises.proofs.AppendNumbers.{by-answer}
 later : {e nex lind : ℕ} {g : Growth} {t : Slot} → Stands g nex lind e t → (t .place ≡ 1 → ⊥) → 2 ≤ e
 later {e} {nex} {lind} {g} {t} u f = split (t .place) 1 (λ l. absurd (f (omega (arith, u .counted)))) (λ l. omega (arith, u .number))
 
-module _ (file : List ℕ) {d : DescriptorNumbers} {addresses : List RecordNumber} {h : Handed} (x : Accepted (length file) d addresses h) (s : SoundIn file d addresses)
+module _ (file : List ℕ) {d : DescriptorNumbers} {addresses : List RecordNumber} {h : Handed} (x : Accepted (length file) d addresses h) (order : d .order ≡ byteOrderOf file) (s : SoundIn file d addresses)
     (version : SFits integer4 (h .version)) (all : (e : ℕ) → 1 ≤ e → e ≤ entriesBefore (d .xnext) → Passed file d addresses e) where
   abbrev n : ℕ
   n = entriesBefore (d .xnext)
@@ -48,17 +50,17 @@ module _ (file : List ℕ) {d : DescriptorNumbers} {addresses : List RecordNumbe
       let u = slot-in-use (length file) d addresses (x .admitted) (record { 0 = e }) l o in
       let q = slot-same file x (record { 0 = e }) l o in
       let k = slotAt d e .extension .0 in
-      let this = entry-same file x s e l o in
+      let this = entry-same file x order s e l o in
       record {
-        opens = opens-then file x s e l (omega (arith, left file x));
+        opens = opens-then file x order s e l (omega (arith, left file x));
         first = rw (q, area-to file x k (u .held .counted) (u .used), this) (p .first);
         next = rw q (λ f.
             let two = later u f in
-            rw (this, entry-same file x s (e - 1) (omega arith) (omega arith)) (p .next f));
+            rw (this, entry-same file x order s (e - 1) (omega arith) (omega arith)) (p .next f));
         last = rw (q, left file x .growth) (λ f g.
             by-area file x (k + 1) (omega arith)
             (λ m. rw (this, area-from file x (k + 1) (omega arith) m) (p .last f (omega arith)))
-            (λ t m. omega (arith, old-end file x s e l o, area-new file x t, ap (areaStartOf (then file x) (areasThen file x)) m)));
+            (λ t m. omega (arith, old-end file x order s e l o, area-new file x t, ap (areaStartOf (then file x) (areasThen file x)) m)));
       }
 
   -- so is the new one, the last of the last extension
@@ -67,11 +69,11 @@ module _ (file : List ℕ) {d : DescriptorNumbers} {addresses : List RecordNumbe
       let t = then file x in
       let i = left file x in
       let u = slot-in-use (length file) t (areasThen file x) (i .admitted) (record { 0 = e }) (omega arith) (omega arith) in
-      let begin = start-last file x s version e o in
+      let begin = start-last file x order s version e o in
       record {
-        opens = opens-then file x s e (omega arith) (omega arith);
-        first = λ f. omega (arith, begin, areas-before file x s (slotAt t e .extension .0) (u .used));
-        next = λ f. let two = later u f in omega (arith, begin, old-end file x s (e - 1) (omega arith) (omega arith));
+        opens = opens-then file x order s e (omega arith) (omega arith);
+        first = λ f. omega (arith, begin, areas-before file x order s (slotAt t e .extension .0) (u .used));
+        next = λ f. let two = later u f in omega (arith, begin, old-end file x order s (e - 1) (omega arith) (omega arith));
         last = λ f g.
             let some : 1 ≤ t .nex = omega (arith, u .held .counted, u .used) in
             let fit = fit-full (growthIn t) (entriesBefore (t .xnext)) (t .nex) some (i .admitted .fit) in
@@ -92,7 +94,7 @@ append-again file h g c =
     (λ a q.
     let x = admits file h (p .0) a in
     rw (file-written file h (p .0) a)
-    (check-passes _ _ _ (validated-after file (p .0) x) (all-passed file x (order-sound file c .inside) (g .version) (p .1))))
+    (check-passes _ _ _ (validated-after file (p .0) x) (all-passed file x (file-order file) (order-sound file c .inside) (g .version) (p .1))))
     (λ same q. rw same c)
 
 -- the order check passes again

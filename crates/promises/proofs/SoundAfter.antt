@@ -11,6 +11,7 @@ use Rattle.geometry.specs.declared.units.RecordNumber.{RecordNumber}
 use Rattle.geometry.specs.Units.{entriesBefore}
 use Rattle.geometry.specs.Area.{slotOf}
 use Rattle.geometry.proofs.Slots.{slot-within}
+use Rattle.layout.specs.FileCode.{byteOrderOf}
 use Rattle.descriptor.specs.declared.numbers.DescriptorNumbers.{DescriptorNumbers}
 use Rattle.descriptor.specs.FirstRecord.{growthIn, freeOf}
 use Rattle.entry.specs.declared.entered.Entered.{Entered}
@@ -31,7 +32,7 @@ use Rattle.promises.proofs.Areas.{area-end-le, area-holds}
 use Rattle.promises.proofs.Spread.{Clear, clear-in, entryAt, Spread, AllOpen, opened-free, apart-spread}
 use Rattle.promises.proofs.EntriesStay.{agrees}
 
-module _ (file : List ℕ) {d : DescriptorNumbers} {addresses : List RecordNumber} {h : Handed} (x : Accepted (length file) d addresses h) (s : SoundIn file d addresses) where
+module _ (file : List ℕ) {d : DescriptorNumbers} {addresses : List RecordNumber} {h : Handed} (x : Accepted (length file) d addresses h) (order : d .order ≡ byteOrderOf file) (s : SoundIn file d addresses) where
   abbrev n : ℕ
   n = entriesBefore (d .xnext)
 
@@ -97,7 +98,7 @@ module _ (file : List ℕ) {d : DescriptorNumbers} {addresses : List RecordNumbe
 
   -- it starts where it was put
   pub start-last : SFits integer4 (h .version) → (e : ℕ) → e ≡ n + 1 → entryThen e .start ≡ entryStart d
-  start-last version e o = let q : e ≡ d .xnext .0 = omega (arith, left file x) in rw (q, entered-new file x version)
+  start-last version e o = let q : e ≡ d .xnext .0 = omega (arith, left file x) in rw (q, entered-new file x order version)
 
   -- ---- all of them
 
@@ -106,7 +107,7 @@ module _ (file : List ℕ) {d : DescriptorNumbers} {addresses : List RecordNumbe
   opens-then e l m =
       by-last n e (omega (arith, left file x))
       (λ o. opens-there file (new file x) d (then file x) addresses (areasThen file x) (record { 0 = e }) (entry-agrees e l o .described))
-      (λ o. let q : e ≡ d .xnext .0 = omega (arith, left file x) in rw q (not-refused file x))
+      (λ o. let q : e ≡ d .xnext .0 = omega (arith, left file x) in rw q (not-refused file x order))
 
   module _ (version : SFits integer4 (h .version)) where
     old-area : (e k : ℕ) → 1 ≤ e → e ≤ n → 1 ≤ k → k ≤ then file x .nex

@@ -96,5 +96,5 @@ module _ {file : List ℕ} {d : DescriptorNumbers} {addresses : List RecordNumbe
   sound-shown shown o s =
       let t = told file (validationOf file) d refl (ap (λ (v : Validation). v .numbers) shown) in
       let same = ap (λ (v : Validation). v .addresses) shown in
-      let a : Admitted (length file) d addresses = rw same at (t .admitted) in
+      let a : Admitted (length file) d addresses = rw same at (t .admitted .admitted) in
       record { admitted = t .refusal; inside = subst₂ (SoundIn file) (t .numbers) (sym same ∙ t .addresses) (record { opens = o; apart = spread-apart a o s }) }

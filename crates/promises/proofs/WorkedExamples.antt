@@ -80,6 +80,10 @@ unfolding requestExamples seen
 request-examples =
     -- Q-2
     refl & refl & refl & refl & refl & refl & refl & refl &
+    -- Q-4
+    refl & refl & refl & refl & refl & refl & refl & refl & refl & refl &
+    refl & refl & refl & refl & refl & refl & refl & refl & refl & refl &
+    refl & refl & refl & refl & refl & refl & refl & refl &
     record {}
 
 -- the first entries of two files differ

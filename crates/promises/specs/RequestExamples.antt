@@ -1,12 +1,23 @@
 -- Cases of the requests of 02, worked by hand, as one table. A row has the number of its request, what the definitions give, and what 02 says or the rules give by hand.
 use Prim.Native.Nat.{ℕ, _*_}
-use mathlib.Core.List.{List, [], _∷_, map}
+use mathlib.Core.List.{List, [], _∷_, _++_, map}
+use lib.IntN.{ℤ, pos, negℤ}
+use Rattle.image.specs.Image.{splice}
 use Rattle.geometry.specs.declared.units.RecordNumber.{RecordNumber}
 use Rattle.geometry.specs.Units.{offsetOf}
 use Rattle.geometry.specs.Growth.{growthOf, capacityOf}
 use Rattle.descriptor.specs.declared.numbers.DescriptorNumbers.{DescriptorNumbers}
-use Rattle.promises.specs.FileA.{settings}
-use Rattle.promises.specs.Examples.{Row, aex, filled, numbersRefusal}
+use Rattle.descriptor.specs.Rules.{fileRefusal}
+use Rattle.entry.specs.Answers.{openOf}
+use Rattle.handing.specs.Parts.{sectionWordsOf, dataWordsOf, bytesOf}
+use Rattle.storing.specs.Handed.{handedIn}
+use Rattle.writer.specs.Creation.{creationRefusal, createdFile}
+use Rattle.writer.specs.Answers.{fileAfter}
+use Rattle.promises.specs.Contents.{numbersIn, openedIn}
+use Rattle.promises.specs.Calls.{following}
+use Rattle.promises.specs.FileA.{settingsIn, settings, lent, A, bigA}
+use Rattle.promises.specs.ByHand.{wordsAt, big, firstRecord, entryHead, slot}
+use Rattle.promises.specs.Examples.{Row, entry, aex, at, identifierFirst, opensAt, filled, numbersRefusal}
 use Rattle.promises.specs.Examples.Row.{Q}
 
 -- Q-2: with lex1 1 and gex 15 the areas of 1, 1, 2, 3 and 5 entries take a record of 46 words each
@@ -36,6 +47,19 @@ sixteenAreas =
 abbrev pub sixteen : DescriptorNumbers
 sixteen = filled (settings 46 4 2 18) 30351 2650 16
 
+-- ---- Q-4
+
+-- a first entry in a new file of an order, with version 0x01020304 and a section of identifier -2 and one word, of bytes 1 to 4
+abbrev pub fullWords : ℤ → List ℕ
+fullWords order =
+    fileAfter (createdFile (lent 6) (settingsIn order 20 4 2 20)) (handedIn (pos 0x01020304) (following 200 4) (negℤ (pos 2) ∷ []) (pos 1 ∷ []) (following 0 4) [])
+
+-- a file with another second byte in its code
+abbrev pub recoded : List ℕ → ℕ → List ℕ
+recoded file byte = splice file 1 (byte ∷ [])
+
+-- ---- the table
+
 -- every row, in the order of the requests
 unfoldable pub requestExamples : List Row
 requestExamples =
@@ -51,4 +75,40 @@ requestExamples =
     -- lex1 2, gex 18: extension 16 is 13,493 and is admitted
     Q 2 (capacityOf (growthOf 2 18) 16) 13493 ∷
     Q 2 (numbersRefusal (offsetOf (46 * 2649)) sixteen sixteenAreas) 0 ∷
+    -- validating gives the order: 0 for A, 1 for A in the big order
+    Q 4 (numbersIn A .order .0) 0 ∷
+    Q 4 (numbersIn bigA .order .0) 1 ∷
+    -- the first record of A in the big order: every field, the code being 32 42 20 20; and xnext, words 7 and 8, byte by byte
+    Q 4 (wordsAt bigA 1 1 20) (firstRecord big 4 6 12 2 2 5) ∷
+    Q 4 (wordsAt bigA 1 7 2) (0 ∷ 0 ∷ 0 ∷ 0 ∷ 0 ∷ 0 ∷ 0 ∷ 4 ∷ []) ∷
+    -- the index of entry 1, byte by byte: record 3, word 1, and the application's word, which is not turned; those of entries 2 and 3
+    Q 4 (wordsAt bigA 2 1 4) (0 ∷ 0 ∷ 0 ∷ 0 ∷ 0 ∷ 0 ∷ 0 ∷ 3 ∷ 0 ∷ 0 ∷ 0 ∷ 1 ∷ 201 ∷ 202 ∷ 203 ∷ 204 ∷ []) ∷
+    Q 4 (wordsAt bigA 2 5 4) (slot big 4 5 (following 210 4)) ∷
+    Q 4 (wordsAt bigA 5 1 4) (slot big 6 1 (following 220 4)) ∷
+    -- entry 1: its head and tables, and the section and the data, which are not turned
+    Q 4 (wordsAt bigA 3 1 16) (entryHead big 1 1 24 20 5 1 ++ big .word 7 ++ big .twoWords 3 ++ big .twoWords 17) ∷
+    Q 4 (wordsAt bigA 3 17 8) (following 0 12 ++ following 100 20) ∷
+    -- it opens as in A, and hands out the same bytes
+    Q 4 (openOf bigA (entry 1) .answer) (opensAt (at 3 1) 1 1 24 20 5) ∷
+    Q 4 (bytesOf bigA (sectionWordsOf bigA (entry 1) (pos 7))) (following 0 12) ∷
+    Q 4 (bytesOf bigA (dataWordsOf bigA (entry 1))) (following 100 20) ∷
+    -- version and identifier with four bytes of their own: 01 02 03 04, and -2, which is FF FF FF FE; in the little order from the other end
+    Q 4 (wordsAt (fullWords (pos 1)) 3 2 1) (1 ∷ 2 ∷ 3 ∷ 4 ∷ []) ∷
+    Q 4 (wordsAt (fullWords (pos 1)) 3 12 1) (0xFF ∷ 0xFF ∷ 0xFF ∷ 0xFE ∷ []) ∷
+    Q 4 (wordsAt (fullWords (pos 1)) 3 17 1) (1 ∷ 2 ∷ 3 ∷ 4 ∷ []) ∷
+    Q 4 (wordsAt (fullWords (pos 0)) 3 2 1) (4 ∷ 3 ∷ 2 ∷ 1 ∷ []) ∷
+    Q 4 (wordsAt (fullWords (pos 0)) 3 12 1) (0xFE ∷ 0xFF ∷ 0xFF ∷ 0xFF ∷ []) ∷
+    Q 4 (wordsAt (fullWords (pos 0)) 3 17 1) (1 ∷ 2 ∷ 3 ∷ 4 ∷ []) ∷
+    Q 4 (openedIn (fullWords (pos 1)) (entry 1) .version) (pos 0x01020304) ∷
+    Q 4 (identifierFirst (fullWords (pos 1)) 1) (negℤ (pos 2)) ∷
+    -- neither code gives 2; under the little code the big reclen is 2^28 + 2^26, which gives 3
+    Q 4 (fileRefusal (recoded bigA 0x43)) 2 ∷
+    Q 4 (fileRefusal (recoded bigA 0x41)) 3 ∷
+    Q 4 (fileRefusal (recoded A 0x42)) 3 ∷
+    -- creation: orders 0 and 1 are admitted, 2 and -1 are not, after 1 and before 3
+    Q 4 (creationRefusal 480 (settingsIn (pos 1) 20 4 2 20)) 0 ∷
+    Q 4 (creationRefusal 480 (settingsIn (pos 2) 20 4 2 20)) 2 ∷
+    Q 4 (creationRefusal 480 (settingsIn (negℤ (pos 1)) 20 4 2 20)) 2 ∷
+    Q 4 (creationRefusal 63 (settingsIn (pos 2) 20 4 2 20)) 1 ∷
+    Q 4 (creationRefusal 480 (settingsIn (pos 2) 15 4 2 20)) 2 ∷
     []

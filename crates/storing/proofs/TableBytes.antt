@@ -12,7 +12,7 @@ use mir.Syntax.{Width}
 use mir.Val.{bytes as width}
 use Rattle.image.specs.Image.{splice}
 use Rattle.image.proofs.Splice.{splice-nil, splice-adjacent}
-use Rattle.words.specs.declared.order.ByteOrder.{ByteOrder}
+use Rattle.words.specs.declared.byte_order.ByteOrder.{ByteOrder}
 use Rattle.words.specs.Word.{integer4, integer8, numeral, signedNumeral}
 use Rattle.words.proofs.Number.{length-numeral}
 use Rattle.geometry.specs.declared.units.EntryAddress.{EntryAddress}

@@ -8,7 +8,7 @@ use lib.ListN.{length}
 use mir.Syntax.{Width}
 use Rattle.image.specs.Image.{splice, zeros}
 use Rattle.image.specs.Writes.{Write, put, writes}
-use Rattle.words.specs.declared.order.ByteOrder.{ByteOrder}
+use Rattle.words.specs.declared.byte_order.ByteOrder.{ByteOrder}
 use Rattle.words.specs.Word.{numeral, integer4, integer8, signedNumeral}
 use Rattle.geometry.specs.declared.units.RecordNumber.{RecordNumber}
 use Rattle.geometry.specs.declared.units.EntryNumber.{EntryNumber}

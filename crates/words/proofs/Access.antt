@@ -14,7 +14,7 @@ use Rattle.image.specs.Image.{part}
 use Rattle.image.specs.Writes.{Write, put, writes, Follows}
 use Rattle.image.proofs.Part.{part-add, length-part}
 use Rattle.image.proofs.Writes.{BehindOf, follow-read}
-use Rattle.words.specs.declared.order.ByteOrder.{ByteOrder}
+use Rattle.words.specs.declared.byte_order.ByteOrder.{ByteOrder}
 use Rattle.words.specs.Word.{littleNumber, littleNumeral, number, numeral, bitsAt, signedAt, bitsOf, signedNumeral}
 use Rattle.words.proofs.Number.{length-numeral, number-numeral, little-append, bytes-part, number-turned}
 use Rattle.words.proofs.Signed.{signed-bits, range}

@@ -9,7 +9,7 @@ use lib.Dec.{eqb}
 use lib.ListN.{length, getD, take, drop, length-reverse}
 use Rattle.outcome.proofs.Either.{either}
 use Rattle.image.specs.Image.{part}
-use Rattle.words.specs.declared.order.ByteOrder.{ByteOrder}
+use Rattle.words.specs.declared.byte_order.ByteOrder.{ByteOrder}
 use Rattle.words.specs.Word.{littleNumber, littleNumeral, arranged, number, numeral}
 
 -- ---- the least significant byte first

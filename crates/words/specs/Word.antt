@@ -7,7 +7,7 @@ use lib.IntN.{ℤ}
 use mir.Syntax.{Width, w32, w64}
 use mir.Val.{toZ, ofZ, bytes}
 use Rattle.image.specs.Image.{part}
-use Rattle.words.specs.declared.order.ByteOrder.{ByteOrder}
+use Rattle.words.specs.declared.byte_order.ByteOrder.{ByteOrder}
 
 -- Integer*4 is a word of the memo, 32 bits
 abbrev pub integer4 : Width

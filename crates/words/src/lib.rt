@@ -3,15 +3,15 @@
 //
 // Offsets count bytes from 0. A reader says which number the bytes at an offset stand for, a writer
 // what the whole image holds at exit, a test what the signed value is. A caller shows that the word lies within the image.
+mod byte_order;
 mod code;
-mod order;
 mod range;
 mod read;
 mod sign;
 mod write;
 
+pub use byte_order::ByteOrder;
 pub use code::code_at;
-pub use order::ByteOrder;
 pub use range::at_least4;
 pub use range::at_least8;
 pub use range::within4;

@@ -1,7 +1,7 @@
 // Reading a word at an offset, in the order of its bytes.
-use super::order::ByteOrder;
-use super::order::turned4;
-use super::order::turned8;
+use super::byte_order::ByteOrder;
+use super::byte_order::turned4;
+use super::byte_order::turned8;
 use super::sign::signed32;
 use super::sign::signed64;
 ghost use mathlib.Core.List.{[], _∷_};

@@ -1,7 +1,7 @@
 // Writing a word at an offset, in the order of its bytes.
-use super::order::ByteOrder;
-use super::order::turned4;
-use super::order::turned8;
+use super::byte_order::ByteOrder;
+use super::byte_order::turned4;
+use super::byte_order::turned8;
 use super::sign::bits32;
 use super::sign::bits64;
 ghost use Prim.Native.Nat.{_+_, _≤_};

@@ -16,7 +16,7 @@ use Rattle.image.specs.Image.{part}
 use Rattle.image.specs.Writes.{Write, put, writes}
 use Rattle.image.proofs.Part.{part-part}
 use Rattle.image.proofs.Writes.{BehindOf, follow-read}
-use Rattle.words.specs.declared.order.ByteOrder.{ByteOrder}
+use Rattle.words.specs.declared.byte_order.ByteOrder.{ByteOrder}
 use Rattle.words.specs.Word.{numeral, integer4, integer8, bitsAt, signedAt, bitsOf, signedNumeral}
 use Rattle.words.specs.Range.{atLeast}
 use Rattle.words.proofs.Number.{length-numeral}

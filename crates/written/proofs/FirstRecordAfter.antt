@@ -11,7 +11,7 @@ use mir.Val.{bits, bytes}
 use Rattle.image.specs.Image.{part}
 use Rattle.image.specs.Writes.{Write, put, writes, Follows, Apart}
 use Rattle.image.proofs.Writes.{writes-read, BehindOf}
-use Rattle.words.specs.declared.order.ByteOrder.{ByteOrder}
+use Rattle.words.specs.declared.byte_order.ByteOrder.{ByteOrder}
 use Rattle.words.specs.Word.{numeral, bitsAt}
 use Rattle.words.proofs.Table.{places-same, places-next}
 use Rattle.words.proofs.Number.{length-numeral}

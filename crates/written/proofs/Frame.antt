@@ -12,7 +12,7 @@ use Rattle.image.specs.Writes.{Write, put, writes, written, Follows}
 use Rattle.image.proofs.Part.{part-within}
 use Rattle.image.proofs.Splice.{length-zeros}
 use Rattle.image.proofs.Writes.{writes-one, writes-keep}
-use Rattle.words.specs.declared.order.ByteOrder.{ByteOrder}
+use Rattle.words.specs.declared.byte_order.ByteOrder.{ByteOrder}
 use Rattle.words.specs.Word.{numeral}
 use Rattle.words.proofs.Number.{length-numeral}
 use Rattle.geometry.specs.declared.units.RecordNumber.{RecordNumber}

@@ -10,7 +10,7 @@ use lib.ListN.{length}
 use mir.Val.{SFits}
 use Rattle.image.specs.Image.{part}
 use Rattle.image.specs.Writes.{put, Follows}
-use Rattle.words.specs.declared.order.ByteOrder.{ByteOrder}
+use Rattle.words.specs.declared.byte_order.ByteOrder.{ByteOrder}
 use Rattle.words.specs.Word.{numeral, integer4, integer8, bitsAt}
 use Rattle.image.proofs.Writes.{BehindOf, follow-read}
 use Rattle.words.proofs.Number.{length-numeral}

@@ -11,7 +11,7 @@ use Rattle.image.specs.Image.{part}
 use Rattle.image.specs.Writes.{Write, writes, Follows}
 use Rattle.image.proofs.Part.{part-left, part-right, part-all}
 use Rattle.image.proofs.Writes.{writes-append}
-use Rattle.words.specs.declared.order.ByteOrder.{ByteOrder}
+use Rattle.words.specs.declared.byte_order.ByteOrder.{ByteOrder}
 use Rattle.words.specs.Word.{number}
 use Rattle.words.proofs.Number.{length-numeral}
 use Rattle.geometry.specs.declared.units.EntryNumber.{EntryNumber}

@@ -26,4 +26,4 @@ numbers-of-spec =
     let nextrec = lex1 .before .before in
     let flags = nextrec .before .before in
     let vind = flags .before .before in
-    rw (c .field4-at9 .ensures, c .before .field4-at8 .ensures, lex1 .field4-at7 .ensures, lex1 .before .field4-at6 .ensures, nextrec .field8-at2 .ensures, nextrec .before .field8-at .ensures, flags .field4-at5 .ensures, flags .before .field4-at4 .ensures, vind .field4-at3 .ensures, vind .before .field4-at2 .ensures, vind .before .before .field4-at .ensures, vind .before .before .before .byte-order .ensures)))
+    rw (c .field4-at9 .ensures, c .before .field4-at8 .ensures, lex1 .field4-at7 .ensures, lex1 .before .field4-at6 .ensures, nextrec .field8-at2 .ensures, nextrec .before .field8-at .ensures, flags .field4-at5 .ensures, flags .before .field4-at4 .ensures, vind .field4-at3 .ensures, vind .before .field4-at2 .ensures, vind .before .before .field4-at .ensures, vind .before .before .before .byte-order-of .ensures)))

@@ -5,7 +5,7 @@ use native.Mathlib.Omega.{arith}
 use borrow.Author.Tests.{le-leb, lt-leb, ne-eqb}
 use lib.ListN.{length}
 use mir.Facts.{toZ-ofZ}
-use Rattle.words.specs.declared.order.ByteOrder.{ByteOrder}
+use Rattle.words.specs.declared.byte_order.ByteOrder.{ByteOrder}
 use Rattle.words.specs.Word.{integer4, signedAt}
 use Rattle.geometry.specs.Units.{entriesBefore}
 use Rattle.descriptor.specs.Refusal.{refusalIn}

@@ -1,10 +1,10 @@
--- `layout::file_code::byte_order` meets its contract: the file's code is compared with the one and the other. Assumes nothing.
+-- `layout::file_code::byte_order_of` meets its contract: the file's code is compared with the one and the other. Assumes nothing.
 use mathlib.Core.Path.{_≡_, sym, _∙_}
 use Rattle.words.specs.Code.{sameBytes}
 use Rattle.layout.specs.FileCode.{littleCode, bigCode, orderSaid, fileCodeOf}
 use borrow.Author.Needs.{needs}
-use Rattle.layout.proofs.file_code.byte_order.Statement.{statement}
-use Rattle.layout.proofs.file_code.byte_order.Tie as tie
+use Rattle.layout.proofs.file_code.byte_order_of.Statement.{statement}
+use Rattle.layout.proofs.file_code.byte_order_of.Tie as tie
 
 -- the first comparison
 little : (c : tie.After-code-at) → c .code-at .result ≡ sameBytes (fileCodeOf (c .before .before .before .args .file .now)) littleCode
@@ -16,9 +16,9 @@ big : (c : tie.After-code-at2) → c .code-at2 .result ≡ sameBytes (fileCodeOf
 unfolding fileCodeOf
 big c = rw (c .before .before .before .first-record-offset .ensures) at (c .code-at2 .ensures)
 
-pub byte-order-spec : {M : Type 1} → statement M
+pub byte-order-of-spec : {M : Type 1} → statement M
 unfolding orderSaid
-byte-order-spec =
+byte-order-of-spec =
     tie.close
     (tie.spec
     (λ c κs. search needs)

@@ -1,9 +1,9 @@
--- `words::order::swapped8` meets its contract. Assumes nothing.
+-- `words::byte_order::swapped8` meets its contract. Assumes nothing.
 use native.Mathlib.Omega.{arith}
 use borrow.Author.Needs.{needs}
 use Rattle.words.specs.Word.{littleNumber, littleNumeral}
-use Rattle.words.proofs.order.swapped8.Statement.{statement}
-use Rattle.words.proofs.order.swapped8.Tie as tie
+use Rattle.words.proofs.byte_order.swapped8.Statement.{statement}
+use Rattle.words.proofs.byte_order.swapped8.Tie as tie
 
 pub swapped8-spec : {M : Type 1} → statement M
 unfolding littleNumber littleNumeral

@@ -1,11 +1,11 @@
--- `words::order::turned4` meets its contract, by the order. Assumes nothing.
+-- `words::byte_order::turned4` meets its contract, by the order. Assumes nothing.
 use mathlib.Core.Path.{sym, _∙_}
 use native.Mathlib.Omega.{arith}
 use borrow.Author.Needs.{needs}
 use borrow.Author.Tests.{eq-eqb, ne-eqb}
 use Rattle.words.proofs.Number.{number-little, number-big}
-use Rattle.words.proofs.order.turned4.Statement.{statement}
-use Rattle.words.proofs.order.turned4.Tie as tie
+use Rattle.words.proofs.byte_order.turned4.Statement.{statement}
+use Rattle.words.proofs.byte_order.turned4.Tie as tie
 
 pub turned4-spec : {M : Type 1} → statement M
 turned4-spec =
