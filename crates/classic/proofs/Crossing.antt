@@ -10,6 +10,7 @@ use Rattle.classic.specs.Answers.{settingsFrom}
 -- settings, each as its bits say it
 abbrev pub passed : ClassicSettings → Settings
 passed s = record {
+  order = toZ w32 (ofZ w32 (s .order));
   reclen = toZ w32 (ofZ w32 (s .reclen));
   kind = toZ w32 (ofZ w32 (s .kind));
   vind = toZ w32 (ofZ w32 (s .vind));
@@ -20,7 +21,7 @@ passed s = record {
 }
 
 -- they are the settings handed in
-pub settings-passed : (s : ClassicSettings) → SFits w32 (s .reclen) → SFits w32 (s .kind) → SFits w32 (s .vind) → SFits w32 (s .lind)
+pub settings-passed : (s : ClassicSettings) → SFits w32 (s .order) → SFits w32 (s .reclen) → SFits w32 (s .kind) → SFits w32 (s .vind) → SFits w32 (s .lind)
     → SFits w32 (s .flags) → SFits w32 (s .lex1) → SFits w32 (s .gex) → passed s ≡ settingsFrom s
-settings-passed s reclen kind vind lind flags lex1 gex =
-    rw (toZ-ofZ reclen, toZ-ofZ kind, toZ-ofZ vind, toZ-ofZ lind, toZ-ofZ flags, toZ-ofZ lex1, toZ-ofZ gex)
+settings-passed s order reclen kind vind lind flags lex1 gex =
+    rw (toZ-ofZ order, toZ-ofZ reclen, toZ-ofZ kind, toZ-ofZ vind, toZ-ofZ lind, toZ-ofZ flags, toZ-ofZ lex1, toZ-ofZ gex)

@@ -20,6 +20,7 @@ two-areas = refl
 -- a file with another code: the number, and zeros
 other-code : descriptorFor (noValidation 2) ≡ record {
   refusal = 2;
+  order = 0;
   reclen = 0;
   kind = 0;
   vind = 0;

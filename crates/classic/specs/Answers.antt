@@ -38,6 +38,7 @@ entryAddresses table = map (λ (a : EntryAddress). a .0) table
 abbrev pub descriptorFrom : ValidatedCase → List RecordNumber → ClassicDescriptor
 descriptorFrom case addresses = record {
   refusal = case .refusal;
+  order = case .numbers .order .0;
   reclen = case .numbers .reclen;
   kind = case .numbers .kind;
   vind = case .numbers .vind;
@@ -98,4 +99,4 @@ AppendsForC file h answer after = AnswersAndLeaves (appendedFor (appendOf file h
 
 -- the settings that C hands in, field by field
 abbrev pub settingsFrom : ClassicSettings → Settings
-settingsFrom s = record { reclen = s .reclen; kind = s .kind; vind = s .vind; lind = s .lind; flags = s .flags; lex1 = s .lex1; gex = s .gex }
+settingsFrom s = record { order = s .order; reclen = s .reclen; kind = s .kind; vind = s .vind; lind = s .lind; flags = s .flags; lex1 = s .lex1; gex = s .gex }

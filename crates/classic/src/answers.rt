@@ -1,11 +1,12 @@
 // The answers and the settings as C has them. The fields are those of include/classic.h, in its order.
 use layout::entry_descriptor::PLACES;
 
-// A file's descriptor: the refusal, 0 when it is admitted; its numbers; and the first record of each
+// A file's descriptor: the refusal, 0 when it is admitted; its byte order; its numbers; and the first record of each
 // index area, zero past nex.
 #[repr(C)]
 pub struct ClassicDescriptor {
     pub refusal: u32,
+    pub order: u32,
     pub reclen: u32,
     pub kind: u32,
     pub vind: u32,
@@ -72,6 +73,7 @@ pub struct ClassicChecked {
 // What a caller chooses for a new file.
 #[repr(C)]
 pub struct ClassicSettings {
+    pub order: i32,
     pub reclen: i32,
     pub kind: i32,
     pub vind: i32,

@@ -11,6 +11,7 @@ pub extern "C" fn classic_create(file: &mut [u8], settings: ClassicSettings) -> 
     ensures { λ r. ⌜ Creates (now (file .entry)) (settingsFrom settings) r (now (file .exit)) ⌝ }
 {
     let chosen = Settings {
+        order: settings.order,
         reclen: settings.reclen,
         kind: settings.kind,
         vind: settings.vind,

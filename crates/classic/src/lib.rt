@@ -66,6 +66,7 @@ pub use parts::classic_section;
 pub use pieces::Sections;
 pub use validating::classic_extension_of;
 pub use validating::classic_validate;
+pub use words::ByteOrder;
 pub use writer::Appended;
 pub use writer::append;
 pub use writer::create;

@@ -21,6 +21,7 @@ fn descriptor_from(case: ValidatedCase, addresses: [RecordNumber; 16]) -> Classi
     let d = case.numbers;
     ClassicDescriptor {
         refusal: case.refusal,
+        order: d.order.0 as u32,
         reclen: d.reclen as u32,
         kind: d.kind as u32,
         vind: d.vind as u32,

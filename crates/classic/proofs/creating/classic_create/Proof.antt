@@ -12,7 +12,7 @@ crossed : (c : tie.After-struct-told) → let s = c .before .before .args .setti
 crossed c =
     let g = c .struct-told .given in
     settings-passed (c .before .before .args .settings) (sfits-of (g .0 .1)) (sfits-of (g .1 .0 .1)) (sfits-of (g .1 .1 .0 .1)) (sfits-of (g .1 .1 .1 .0 .1))
-    (sfits-of (g .1 .1 .1 .1 .0 .1)) (sfits-of (g .1 .1 .1 .1 .1 .0 .1)) (sfits-of (g .1 .1 .1 .1 .1 .1 .0 .1))
+    (sfits-of (g .1 .1 .1 .1 .0 .1)) (sfits-of (g .1 .1 .1 .1 .1 .0 .1)) (sfits-of (g .1 .1 .1 .1 .1 .1 .0 .1)) (sfits-of (g .1 .1 .1 .1 .1 .1 .1 .0 .1))
 
 returns : tie.Need-returns
 returns c =

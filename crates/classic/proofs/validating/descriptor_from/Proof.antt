@@ -16,5 +16,9 @@ descriptor-from-spec =
     (λ c. search needs)
     (λ c. search needs)
     (λ c. search needs)
+    (λ c.
+    let nextword = c .before .before .before in
+    let vind = nextword .before .before .before .before in
+    record { fits = vind .before .before .before .before .pre .gex })
     (λ c κs. search needs)
     (λ c. rw (c .record-numbers .ensures)))
