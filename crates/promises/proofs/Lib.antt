@@ -19,6 +19,7 @@ pub mod Bytes
 pub mod CreateBytes
 pub mod AppendBytes
 pub mod Series
+pub mod Orders
 pub mod OrderAgain
 pub mod Demand3
 pub mod RefusalMeans

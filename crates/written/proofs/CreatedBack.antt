@@ -135,6 +135,10 @@ module _ (file : List ℕ) (s : Settings) (e : creationRefusal (length file) s �
   unfolding createdFile
   created-written = rw e
 
+  -- the file is as long as before
+  pub length-created : length (createdFile file s) ≡ length file
+  length-created = ap length created-written ∙ length-first file (createdOf s)
+
   -- it is admitted, with the numbers of a new file and no addresses
   pub created-validated : Validates (createdFile file s) (createdOf s) noAddresses
   unfolding createdOf addressesOf

@@ -1,0 +1,173 @@
+-- The order shows in a file's bytes alone: two creations with the same settings but for the order, and the same appends to each, answer the same and
+-- leave the same contents. Assumes nothing.
+use Prim.Native.Nat.{ℕ, _+_}
+use mathlib.Core.Path.{_≡_, refl, sym, ap, ap₂, _∙_}
+use mathlib.Core.Bool.{cond}
+use mathlib.Core.List.{List, [], _∷_}
+use borrow.Author.Tests.{eqb-true, eqb-false}
+use lib.Dec.{eqb}
+use lib.IntN.{ℤ}
+use lib.ListN.{length}
+use Rattle.outcome.proofs.Either.{either}
+use Rattle.words.specs.declared.byte_order.ByteOrder.{ByteOrder}
+use Rattle.words.specs.Word.{integer4, bitsOf}
+use Rattle.geometry.specs.declared.units.RecordNumber.{RecordNumber}
+use Rattle.geometry.specs.declared.units.EntryNumber.{EntryNumber}
+use Rattle.descriptor.specs.declared.numbers.Settings.{Settings}
+use Rattle.descriptor.specs.declared.numbers.DescriptorNumbers.{DescriptorNumbers}
+use Rattle.descriptor.specs.declared.validating.Validation.{Validation}
+use Rattle.descriptor.specs.FirstRecord.{numbersOf, createdOf, addressesOf}
+use Rattle.descriptor.specs.Rules.{fileRefusal}
+use Rattle.descriptor.specs.Answers.{validationOf}
+use Rattle.descriptor.proofs.Answered.{answer-numbers, told}
+use Rattle.placing.specs.Placing.{full, newArea, afterNewArea, entryStart, nexAfter, numbersAfter, addressesAfter}
+use Rattle.storing.specs.Handed.{Handed, nwordIn}
+use Rattle.writer.specs.declared.appending.Appended.{Appended}
+use Rattle.writer.specs.Rules.{appendRefusal}
+use Rattle.writer.specs.Answers.{appendedFrom, appendIn, appendOf, fileAfter}
+use Rattle.writer.specs.Creation.{creationRefusal, createdFile}
+use Rattle.written.proofs.ReadBack.{Validates, admits, file-written, validated-after}
+use Rattle.written.proofs.AppendLeaves.{new, then, areasThen, left}
+use Rattle.written.proofs.CreatedBack.{noAddresses, length-created, created-validated}
+use Rattle.promises.specs.Contents.{contents}
+use Rattle.promises.specs.Calls.{Call, append, AllFit, appended, run, answers, contentsAfterAll}
+use Rattle.promises.specs.Orders.{settingsWith, numbersWith}
+use Rattle.promises.proofs.AppendNumbers.{by-answer}
+use Rattle.promises.proofs.RefusedAnswers.{append-kept}
+use Rattle.promises.proofs.CreatedSound.{created-sound, created-empty}
+use Rattle.promises.proofs.Series.{run-contents}
+
+-- ---- what an append makes of numbers with another order
+
+module _ (o : ByteOrder) (d : DescriptorNumbers) where
+  -- its refusal is the same
+  refusal-same : (bytes : ℕ) (h : Handed) → appendRefusal bytes (numbersWith o d) h ≡ appendRefusal bytes d h
+  unfolding appendRefusal full entryStart afterNewArea newArea
+  refusal-same bytes h = refl
+
+  -- so are the numbers after it, but for the order
+  numbers-same : (h : Handed) → numbersAfter (numbersWith o d) (entryStart (numbersWith o d) + nwordIn h) ≡ numbersWith o (numbersAfter d (entryStart d + nwordIn h))
+  unfolding numbersAfter nexAfter full entryStart afterNewArea newArea
+  numbers-same h = refl
+
+  -- and the addresses
+  addresses-same : (addresses : List RecordNumber) → addressesAfter (numbersWith o d) addresses ≡ addressesAfter d addresses
+  unfolding addressesAfter full newArea
+  addresses-same addresses = refl
+
+-- ---- two files that differ in their order alone, as validating sees them
+
+-- both are admitted, and the second has the numbers and addresses of the first, but for the order o
+record Twins (o : ByteOrder) (f g : List ℕ) : Type 0 where
+  size : length g ≡ length f
+  first : fileRefusal f ≡ 0
+  second : fileRefusal g ≡ 0
+  numbers : numbersOf g ≡ numbersWith o (numbersOf f)
+  addresses : addressesOf g (numbersOf g .nex) ≡ addressesOf f (numbersOf f .nex)
+
+-- what a file that validates with numbers and addresses shows
+record Shown (file : List ℕ) (d : DescriptorNumbers) (addresses : List RecordNumber) : Type 0 where
+  admitted : fileRefusal file ≡ 0
+  numbers : numbersOf file ≡ d
+  table : addressesOf file (numbersOf file .nex) ≡ addresses
+
+shown : (file : List ℕ) (d : DescriptorNumbers) (addresses : List RecordNumber) → Validates file d addresses → Shown file d addresses
+shown file d addresses v =
+    let t = told file (validationOf file) d refl (ap (λ (x : Validation). x .numbers) v) in
+    record { admitted = t .refusal; numbers = sym (t .numbers); table = sym (t .addresses) ∙ ap (λ (x : Validation). x .addresses) v }
+
+-- the answer of an append, by its refusal and the number of the next entry
+abbrev answered : ℕ → EntryNumber → Appended
+answered n e = record { refusal = n; number = cond (eqb n 0) e (record { 0 = 0 }) }
+
+answer-by : (file : List ℕ) (h : Handed) → fileRefusal file ≡ 0 → appendOf file h ≡ answered (appendRefusal (length file) (numbersOf file) h) (numbersOf file .xnext)
+unfolding appendIn appendedFrom
+answer-by file h z =
+    let n = appendRefusal (length file) (numbersOf file) h in
+    rw (answer-numbers file z) (either (eqb n 0) (λ q. rw (q, eqb-true n 0 q)) (λ q. rw q))
+
+module _ (file : List ℕ) (h : Handed) (z : fileRefusal file ≡ 0) (a : appendRefusal (length file) (numbersOf file) h ≡ 0) where
+  abbrev d : DescriptorNumbers
+  d = numbersOf file
+
+  -- what an accepted append leaves of the numbers and the addresses
+  append-shows : Shown (fileAfter file h) (numbersAfter d (entryStart d + nwordIn h)) (addressesAfter d (addressesOf file (d .nex)))
+  append-shows = let x = admits file h z a in rw (file-written file h z a) (shown (new file x) (then file x) (areasThen file x) (validated-after file z x))
+
+  -- and of the length
+  append-size : length (fileAfter file h) ≡ length file
+  append-size = let x = admits file h z a in ap length (file-written file h z a) ∙ left file x .size
+
+-- ---- one append to each
+
+module _ {o : ByteOrder} {f g : List ℕ} (t : Twins o f g) (h : Handed) where
+  -- its refusal is the same
+  refusals-same : appendRefusal (length g) (numbersOf g) h ≡ appendRefusal (length f) (numbersOf f) h
+  refusals-same = rw (t .size, t .numbers) (refusal-same o (numbersOf f) (length f) h)
+
+  -- so is its answer
+  answers-same : appendOf g h ≡ appendOf f h
+  answers-same =
+      answer-by g h (t .second)
+      ∙ ap₂ answered refusals-same (ap (λ (d : DescriptorNumbers). d .xnext) (t .numbers))
+      ∙ sym (answer-by f h (t .first))
+
+  -- and the files after it differ in their order alone
+  twins-after : Twins o (fileAfter f h) (fileAfter g h)
+  twins-after =
+      by-answer f h (t .first)
+      (λ a q.
+      let b = refusals-same ∙ a in
+      let p = append-shows f h (t .first) a in
+      let r = append-shows g h (t .second) b in
+      let next : numbersAfter (numbersOf g) (entryStart (numbersOf g) + nwordIn h) ≡ numbersWith o (numbersAfter (numbersOf f) (entryStart (numbersOf f) + nwordIn h)) = rw (t .numbers) (numbers-same o (numbersOf f) h) in
+      let areas : addressesAfter (numbersOf g) (addressesOf g (numbersOf g .nex)) ≡ addressesAfter (numbersOf f) (addressesOf f (numbersOf f .nex)) = rw (t .addresses, t .numbers) (addresses-same o (numbersOf f) (addressesOf f (numbersOf f .nex))) in
+      record {
+        size = append-size g h (t .second) b ∙ t .size ∙ sym (append-size f h (t .first) a);
+        first = p .admitted;
+        second = r .admitted;
+        numbers = r .numbers ∙ next ∙ ap (numbersWith o) (sym (p .numbers));
+        addresses = r .table ∙ areas ∙ sym (p .table);
+      })
+      (λ same q.
+      let other = append-kept g h (λ e. eqb-false (appendOf f h .refusal) 0 q (ap (λ (x : Appended). x .refusal) (sym answers-same) ∙ e)) in
+      rw (same, other) t)
+
+-- ---- a series of them
+
+series-same : (calls : List Call) {o : ByteOrder} {f g : List ℕ} → Twins o f g → answers calls g ≡ answers calls f
+series-same [] t = refl
+series-same (append h ∷ cs) t = λ i. appended (answers-same t h i) ∷ series-same cs (twins-after t h) i
+
+-- two creations with the same settings, each in its own order and in a buffer of its own, and the same calls on each: the answers and the contents are the same
+module _ (s : Settings) (o p : ℤ) (f g : List ℕ) (size : length g ≡ length f)
+    (made : creationRefusal (length f) (settingsWith o s) ≡ 0) (other : creationRefusal (length g) (settingsWith p s) ≡ 0) where
+  abbrev one : List ℕ
+  one = createdFile f (settingsWith o s)
+
+  abbrev two : List ℕ
+  two = createdFile g (settingsWith p s)
+
+  created-twins : Twins (record { 0 = bitsOf integer4 p }) one two
+  unfolding createdOf
+  created-twins =
+      let a = shown one (createdOf (settingsWith o s)) noAddresses (created-validated f (settingsWith o s) made) in
+      let b = shown two (createdOf (settingsWith p s)) noAddresses (created-validated g (settingsWith p s) other) in
+      record {
+        size = length-created g (settingsWith p s) other ∙ size ∙ sym (length-created f (settingsWith o s) made);
+        first = a .admitted;
+        second = b .admitted;
+        numbers = b .numbers ∙ ap (numbersWith (record { 0 = bitsOf integer4 p })) (sym (a .numbers));
+        addresses = b .table ∙ sym (a .table);
+      }
+
+  -- the answers
+  pub order-answers : (calls : List Call) → answers calls two ≡ answers calls one
+  order-answers calls = series-same calls created-twins
+
+  -- the contents
+  pub order-contents : (calls : List Call) → AllFit calls → contents (run calls two) ≡ contents (run calls one)
+  order-contents calls fits =
+      run-contents calls fits two (created-sound g (settingsWith p s) other)
+      ∙ ap₂ (contentsAfterAll calls) (order-answers calls) (created-empty g (settingsWith p s) other ∙ sym (created-empty f (settingsWith o s) made))
+      ∙ sym (run-contents calls fits one (created-sound f (settingsWith o s) made))
