@@ -1,8 +1,8 @@
 -- Laws of `number` and `numeral`, over the order and the width: lengths, the number read back from its bytes, and bytes turned by their number. Assumes nothing.
 use Prim.Native.Nat.{ℕ, zero, suc, _+_, _*_, _/_, _%_, _^_, _<_}
-use mathlib.Core.Path.{_≡_, refl, ap, _∙_, subst}
+use mathlib.Core.Path.{_≡_, refl, sym, ap, _∙_, subst}
 use mathlib.Core.Bool.{true, false, cond}
-use mathlib.Core.List.{List, [], _∷_, _++_, reverse, reverseAux, reverse-reverse}
+use mathlib.Core.List.{List, [], _∷_, _++_, reverse, reverseAux, reverse-reverse, reverse-append}
 use native.Mathlib.Omega.{arith}
 use native.Mathlib.Nat.{mul-assoc, pow-succ', pow-suc}
 use lib.Dec.{eqb}
@@ -46,6 +46,10 @@ bytes-onto : (xs ys : List ℕ) → Bytes xs → Bytes ys → Bytes (reverseAux 
 bytes-onto [] ys h k = k
 bytes-onto (x ∷ xs) ys h k = bytes-onto xs (x ∷ ys) (h .1) (h .0, k)
 
+bytes-append : (xs ys : List ℕ) → Bytes xs → Bytes ys → Bytes (xs ++ ys)
+bytes-append [] ys h k = k
+bytes-append (x ∷ xs) ys h k = (h .0, bytes-append xs ys (h .1) k)
+
 bytes-drop : (n : ℕ) (xs : List ℕ) → Bytes xs → Bytes (drop n xs)
 bytes-drop zero xs h = h
 bytes-drop (suc n) [] h = tt
@@ -73,6 +77,24 @@ numeral-back (b ∷ bs) h =
     let low : (b + 256 * littleNumber bs) % 256 ≡ b = omega arith in
     let rest : (b + 256 * littleNumber bs) / 256 ≡ littleNumber bs = omega arith in
     rw (low, rest, numeral-back bs (h .1))
+
+-- eight bytes of a number are those of its lower half and then those of its upper half
+numeral-halves : (x : ℕ) → x < 2 ^ 64 → littleNumeral 8 x ≡ littleNumeral 4 (x % 4294967296) ++ littleNumeral 4 (x / 4294967296)
+unfolding littleNumeral
+numeral-halves x h =
+    let low = littleNumeral 4 (x % 4294967296) in
+    let high = littleNumeral 4 (x / 4294967296) in
+    let whole : littleNumber (low ++ high) ≡ x = little-append low high ∙ rw (little-back 4 (x % 4294967296) (omega arith), little-back 4 (x / 4294967296) (omega arith)) (omega arith) in
+    sym (ap (littleNumeral 8) whole) ∙ numeral-back (low ++ high) (bytes-append low high (bytes-numeral 4 (x % 4294967296)) (bytes-numeral 4 (x / 4294967296)))
+
+-- turned round, each half is turned round and the two are exchanged
+pub reverse-halves : (x : ℕ) → x < 2 ^ 64 → littleNumber (reverse (littleNumeral 8 x))
+    ≡ littleNumber (reverse (littleNumeral 4 (x / 4294967296))) + 4294967296 * littleNumber (reverse (littleNumeral 4 (x % 4294967296)))
+unfolding littleNumeral
+reverse-halves x h =
+    let low = littleNumeral 4 (x % 4294967296) in
+    let high = littleNumeral 4 (x / 4294967296) in
+    ap (λ (bs : List ℕ). littleNumber (reverse bs)) (numeral-halves x h) ∙ ap littleNumber (reverse-append low high) ∙ little-append (reverse high) (reverse low)
 
 -- ---- in either order
 

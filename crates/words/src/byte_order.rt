@@ -17,19 +17,13 @@ fn swapped4(bits: u32) -> u32
     fourth % 256 + 256 * (third % 256 + 256 * (second % 256 + 256 * (bits % 256)))
 }
 
-// The number whose eight bytes are those of another turned round.
+// The number whose eight bytes are those of another turned round: each half turned, and the two exchanged.
 fn swapped8(bits: u64) -> u64
     ensures { λ r. ⌜ Answers (littleNumber (reverse (littleNumeral 8 bits))) r ⌝ }
 {
-    let second = bits / 256;
-    let third = second / 256;
-    let fourth = third / 256;
-    let fifth = fourth / 256;
-    let sixth = fifth / 256;
-    let seventh = sixth / 256;
-    let eighth = seventh / 256;
-    let low = fourth % 256 + 256 * (third % 256 + 256 * (second % 256 + 256 * (bits % 256)));
-    eighth % 256 + 256 * (seventh % 256 + 256 * (sixth % 256 + 256 * (fifth % 256 + 256 * low)))
+    let low = swapped4((bits % 4294967296) as u32) as u64;
+    let high = swapped4((bits / 4294967296) as u32) as u64;
+    high + 4294967296 * low
 }
 
 // The number that the little-endian bytes of an Integer*4 stand for in an order.
