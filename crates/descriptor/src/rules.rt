@@ -28,6 +28,17 @@ fn reclen_holds(reclen: u64) -> bool
     )
 }
 
+// Whether the length of a slot is admitted.
+fn lind_holds(lind: u64) -> bool
+    ensures { λ r. ⌜ Answers (within 3 256 (signedOf integer4 lind)) r ⌝ }
+{
+    words::within4(
+        lind,
+        DescriptorNumbers::LIND_MIN,
+        DescriptorNumbers::LIND_MAX,
+    )
+}
+
 // Rules 2 to 8, on the numbers and the count of bytes lent: the first that is broken, or 0.
 pub fn setting_refusal(bytes: u64, d: DescriptorNumbers) -> u32
     ensures { λ r. ⌜ Answers (settingRefusal bytes d) r ⌝ }
@@ -50,11 +61,7 @@ pub fn setting_refusal(bytes: u64, d: DescriptorNumbers) -> u32
     if !words::at_least4(d.vind, 2) {
         return 6;
     }
-    if !words::within4(
-        d.lind,
-        DescriptorNumbers::LIND_MIN,
-        DescriptorNumbers::LIND_MAX,
-    ) {
+    if !lind_holds(d.lind) {
         return 6;
     }
     if !words::within4(d.flags, 0, 1) {

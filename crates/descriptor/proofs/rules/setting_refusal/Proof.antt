@@ -43,20 +43,20 @@ abbrev past-6 : tie.Else6 → Past rules 6
 past-6 c = next (past-5 (c .before .before)) (holds (c .before .at-least4 .ensures) (c .if6 .left))
 
 abbrev past-7 : tie.Else7 → Past rules 7
-past-7 c = next (past-6 (c .before .before)) (holds (c .before .within43 .ensures) (c .if7 .left))
+past-7 c = next (past-6 (c .before .before)) (holds (c .before .lind-holds .ensures) (c .if7 .left))
 
 abbrev past-8 : tie.Else8 → Past rules 8
-past-8 c = next (past-7 (c .before .before)) (holds (c .before .within44 .ensures) (c .if8 .left))
+past-8 c = next (past-7 (c .before .before)) (holds (c .before .within43 .ensures) (c .if8 .left))
 
 abbrev past-9 : tie.Else9 → Past rules 9
-past-9 c = next (past-8 (c .before .before)) (holds (c .before .within45 .ensures) (c .if9 .left))
+past-9 c = next (past-8 (c .before .before)) (holds (c .before .within44 .ensures) (c .if9 .left))
 
 abbrev past-10 : tie.Else10 → Past rules 10
-past-10 c = next (past-9 (c .before .before)) (holds (c .before .within46 .ensures) (c .if10 .left))
+past-10 c = next (past-9 (c .before .before)) (holds (c .before .within45 .ensures) (c .if10 .left))
 
 -- the limit of nex, and the capacities within theirs
-few : (c : tie.After-within47) → let d = past-10 (c .before .before) .given .args .d in c .within47 .result ≡ within 0 (mexOf (d .reclen)) (signedOf integer4 (d .nex))
-few c = rw (c .before .mex .ensures) at (c .within47 .ensures)
+few : (c : tie.After-within46) → let d = past-10 (c .before .before) .given .args .d in c .within46 .result ≡ within 0 (mexOf (d .reclen)) (signedOf integer4 (d .nex))
+few c = rw (c .before .mex .ensures) at (c .within46 .ensures)
 
 abbrev past-11 : tie.Else11 → Past rules 11
 past-11 c = next (past-10 (c .before .before .before)) (holds (few (c .before)) (c .if11 .left))
@@ -86,13 +86,13 @@ setting-refusal-spec =
     (λ c κs. search needs)
     (λ c. stop (past-5 (c .before .before)) (broken (c .before .at-least4 .ensures) (c .if6 .taken)))
     (λ c κs. search needs)
-    (λ c. stop (past-6 (c .before .before)) (broken (c .before .within43 .ensures) (c .if7 .taken)))
+    (λ c. stop (past-6 (c .before .before)) (broken (c .before .lind-holds .ensures) (c .if7 .taken)))
     (λ c κs. search needs)
-    (λ c. stop (past-7 (c .before .before)) (broken (c .before .within44 .ensures) (c .if8 .taken)))
+    (λ c. stop (past-7 (c .before .before)) (broken (c .before .within43 .ensures) (c .if8 .taken)))
     (λ c κs. search needs)
-    (λ c. stop (past-8 (c .before .before)) (broken (c .before .within45 .ensures) (c .if9 .taken)))
+    (λ c. stop (past-8 (c .before .before)) (broken (c .before .within44 .ensures) (c .if9 .taken)))
     (λ c κs. search needs)
-    (λ c. stop (past-9 (c .before .before)) (broken (c .before .within46 .ensures) (c .if10 .taken)))
+    (λ c. stop (past-9 (c .before .before)) (broken (c .before .within45 .ensures) (c .if10 .taken)))
     (λ c κs. reclen (past-10 c) .0)
     (λ c κs. omega (arith, c .mex .ensures, mex-high (past-10 (c .before) .given .args .d .reclen)))
     (λ c. stop (past-10 (c .before .before .before)) (broken (few (c .before)) (c .if11 .taken)))
