@@ -1,4 +1,4 @@
--- What is written into the first record, in the order of its numbers: the settings, how far the file is filled, and the growth.
+-- What is written into the first record, in the byte order that the numbers have: the settings, how far the file is filled, and the growth.
 use Prim.Native.Nat.{ℕ, _-_}
 use mathlib.Core.List.{List, [], _∷_}
 use Rattle.image.specs.Image.{zeros}
