@@ -40,12 +40,12 @@ extern "C" {
    from 0.
 
    Byte order. Numbers that are handed over, alone, in a struct or in an array, are the machine's own. In the file
-   Integer*4 and Integer*8 are two's complement, in the order that the file's code says: "2A  " (32 41 20 20) is order 0,
-   little-endian, the least significant byte first, and "2B  " (32 42 20 20) is order 1, big-endian, the most significant
-   first. The calls turn them: the fields of the first record with the addresses, those of an entry's descriptor with
-   its tables, and the first three words of an entry's index. A new file's order is one of its settings; an append
-   writes in the file's own. The codes, the application's index words, sections and data are bytes as they are handed
-   over: no call reads them as numbers or turns them, in either order.
+   Integer*4 and Integer*8 are two's complement, in the order that the file's code says: "2A  " (32 41 20 20) is
+   order 0, little-endian, the least significant byte first, and "2B  " (32 42 20 20) is order 1, big-endian, the most
+   significant first. The calls turn them: the fields of the first record with the addresses, those of an entry's
+   descriptor with its tables, and the first three words of an entry's index. A new file's order is one of its
+   settings; an append writes in the file's own. The codes, the application's index words, sections and data are bytes
+   as they are handed over: no call reads them as numbers or turns them, in either order.
 
    Lending. The file is the caller's whole buffer; bytes past the next free word are free room and mean nothing.
    Every buffer belongs to the caller, is used during the call only, and is never kept or freed. A call reads
