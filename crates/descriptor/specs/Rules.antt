@@ -1,6 +1,6 @@
 -- The rules of the first record as one table in the order of 01, refusals 1 to 11.
-use Prim.Native.Nat.{ℕ, zero, suc, _+_, _/_, _%_, _^_}
-use mathlib.Core.Bool.{Bool, true, not, _&&_}
+use Prim.Native.Nat.{ℕ, zero, suc, _/_, _%_, _^_}
+use mathlib.Core.Bool.{Bool, not, _&&_}
 use mathlib.Core.List.{List, [], _∷_, _++_}
 use lib.ListN.{length}
 use lib.Dec.{leb, ltb, eqb}
@@ -8,9 +8,8 @@ use Rattle.words.specs.Word.{integer4, integer8, signedOf}
 use Rattle.words.specs.Range.{within, atLeast}
 use Rattle.geometry.specs.declared.units.RecordNumber.{RecordNumber}
 use Rattle.geometry.specs.declared.growth.Growth.{Growth}
-use Rattle.geometry.specs.Units.{positionOf, offsetOf, entriesBefore}
-use Rattle.geometry.specs.Growth.{capacityOf, totalOf, overOf}
-use Rattle.geometry.specs.Area.{areaRecords}
+use Rattle.geometry.specs.Units.{offsetOf, entriesBefore}
+use Rattle.geometry.specs.Growth.{totalOf, overOf}
 use Rattle.descriptor.specs.declared.numbers.DescriptorNumbers.{DescriptorNumbers}
 use Rattle.descriptor.specs.Refusal.{Rule, row, refusalIn}
 use Rattle.descriptor.specs.FirstRecord.{numbersOf, addressesOf, mexOf, growthIn, freeOf}

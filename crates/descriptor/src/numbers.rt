@@ -7,7 +7,7 @@ use layout::file_code::byte_order_of;
 use layout::first_record;
 use words::ByteOrder;
 ghost use mathlib.Core.Path.{_≡_};
-ghost use Prim.Native.Nat.{_+_, _*_, _≤_, _<_};
+ghost use Prim.Native.Nat.{_+_, _*_, _≤_};
 ghost use lib.ListN.{length};
 ghost use Rattle.outcome.specs.Outcome.{Answers};
 ghost use Rattle.layout.specs.FileCode.{byteOrderOf};

@@ -2,7 +2,6 @@
 use super::printing::wrong;
 use super::reading::bits_at;
 use super::reading::byte_at;
-use super::reading::bytes_before;
 use super::reading::bytes_of;
 use super::reading::int4;
 use super::reading::least;

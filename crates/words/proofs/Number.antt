@@ -1,7 +1,7 @@
 -- Laws of `number` and `numeral`, over the order and the width: lengths, the number read back from its bytes, and bytes turned by their number. Assumes nothing.
 use Prim.Native.Nat.{ℕ, zero, suc, _+_, _*_, _/_, _%_, _^_, _<_}
 use mathlib.Core.Path.{_≡_, refl, sym, ap, _∙_, subst}
-use mathlib.Core.Bool.{true, false, cond}
+use mathlib.Core.Bool.{true, false}
 use mathlib.Core.List.{List, [], _∷_, _++_, reverse, reverseAux, reverse-reverse, reverse-append}
 use native.Mathlib.Omega.{arith}
 use native.Mathlib.Nat.{mul-assoc, pow-succ', pow-suc}
