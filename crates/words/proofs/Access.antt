@@ -33,11 +33,14 @@ little-halves image at h =
     ap littleNumber (part-add image at 4 4) ∙ little-append (part image at 4) (part image (at + 4) 4)
     ∙ ap (λ (k : ℕ). littleNumber (part image at 4) + 256 ^ k * littleNumber (part image (at + 4) 4)) (length-part image at 4 (omega arith))
 
--- an integer is its little-endian reading turned
+-- an integer is its little-endian reading, l, turned
 pub bits-turned : (o : ByteOrder) (w : Width) (image : List ℕ) (at : ℕ) → ((i : ℕ) → getD image i 0 < 256) → at + bytes w ≤ length image
-    → number o (littleNumeral (bytes w) (littleNumber (part image at (bytes w)))) ≡ bitsAt o w image at
+    → {l t : ℕ} → l ≡ littleNumber (part image at (bytes w)) → t ≡ number o (littleNumeral (bytes w) l) → t ≡ bitsAt o w image at
 unfolding bitsAt
-bits-turned o w image at b h = number-turned o (part image at (bytes w)) (bytes w) (bytes-part image at (bytes w) b) (length-part image at (bytes w) h)
+bits-turned o w image at b h read turned =
+    turned
+    ∙ ap (λ (l : ℕ). number o (littleNumeral (bytes w) l)) read
+    ∙ number-turned o (part image at (bytes w)) (bytes w) (bytes-part image at (bytes w) b) (length-part image at (bytes w) h)
 
 -- bytes of a number are read as the number, and those of a value as the value
 pub bits-of : (o : ByteOrder) (w : Width) (image : List ℕ) (at u : ℕ) → u < 2 ^ bits w → part image at (length (numeral o (bytes w) u)) ≡ numeral o (bytes w) u → bitsAt o w image at ≡ u

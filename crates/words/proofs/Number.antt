@@ -127,11 +127,12 @@ pub number-turned : (o : ByteOrder) (bs : List ℕ) (n : ℕ) → Bytes bs → l
 number-turned o bs n h e = subst (λ (k : ℕ). number o (littleNumeral k (littleNumber bs)) ≡ number o bs) e (ap (number o) (numeral-back bs h))
 
 -- a number that is turned and then written as little-endian is written in its order
-pub numeral-turned : (o : ByteOrder) (n x : ℕ) → littleNumeral n (number o (littleNumeral n x)) ≡ numeral o n x
+pub numeral-turned : (o : ByteOrder) (n x : ℕ) {t : ℕ} → t ≡ number o (littleNumeral n x) → littleNumeral n t ≡ numeral o n x
 unfolding number numeral
-numeral-turned o n x =
+numeral-turned o n x e =
     let bs = arranged o (littleNumeral n x) in
-    subst (λ (k : ℕ). littleNumeral k (littleNumber bs) ≡ bs) (length-arranged o (littleNumeral n x) ∙ length-little n x)
+    ap (littleNumeral n) e
+    ∙ subst (λ (k : ℕ). littleNumeral k (littleNumber bs) ≡ bs) (length-arranged o (littleNumeral n x) ∙ length-little n x)
     (numeral-back bs (bytes-arranged o (littleNumeral n x) (bytes-numeral n x)))
 
 -- the little order turns nothing

@@ -1,22 +1,18 @@
 -- `words::write::put_u32` meets its contract: the array is the numeral of the number turned. Assumes nothing.
-use mathlib.Core.Path.{_≡_, ap, _∙_}
+use mathlib.Core.Path.{ap, _∙_}
 use Rattle.image.specs.Image.{splice}
-use Rattle.words.specs.Word.{littleNumeral, numeral}
+use Rattle.words.specs.Word.{littleNumeral}
 use Rattle.words.proofs.Number.{numeral-turned}
 use borrow.Author.Needs.{needs}
 use Rattle.words.proofs.write.put_u32.Statement.{statement}
 use Rattle.words.proofs.write.put_u32.Tie as tie
-
--- the bytes that are put
-bytes : (c : tie.After-turned4) → let a = c .before .before .args in littleNumeral 4 (c .turned4 .result) ≡ numeral (a .order) 4 (a .bits)
-bytes c = let a = c .before .before .args in ap (littleNumeral 4) (c .turned4 .ensures) ∙ numeral-turned (a .order) 4 (a .bits)
 
 returns : tie.Need-returns
 unfolding littleNumeral
 returns c =
     let t = c .before .before .before .before .before in
     let a = t .before .before .args in
-    c .before .before .put .ensures ∙ ap (splice (a .image .now) (a .at)) (bytes t)
+    c .before .before .put .ensures ∙ ap (splice (a .image .now) (a .at)) (numeral-turned (a .order) 4 (a .bits) (t .turned4 .ensures))
 
 pub put-u32-spec : {M : Type 1} → statement M
 put-u32-spec =
