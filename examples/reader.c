@@ -16,17 +16,18 @@ static size_t bytes;
 static const char *name_of(uint32_t refusal) {
 #define NAME(refusal) [refusal] = #refusal
     static const char *const names[] = {
-        NAME(CLASSIC_ACCEPTED),      NAME(CLASSIC_LENT_SHORT),   NAME(CLASSIC_FILE_CODE),
-        NAME(CLASSIC_RECLEN),        NAME(CLASSIC_LENT_LENGTH),  NAME(CLASSIC_KIND),
-        NAME(CLASSIC_INDEX_FORM),    NAME(CLASSIC_FLAGS),        NAME(CLASSIC_GROWTH),
-        NAME(CLASSIC_ENTRY_COUNT),   NAME(CLASSIC_NEXT_FREE),    NAME(CLASSIC_INDEX_AREA),
-        NAME(CLASSIC_NUMBER),        NAME(CLASSIC_ENTRY_PLACE),  NAME(CLASSIC_ENTRY_CODE),
-        NAME(CLASSIC_ENTRY_LENGTH),  NAME(CLASSIC_ENTRY_XNUM),   NAME(CLASSIC_DATA_PLACE),
-        NAME(CLASSIC_SECTION_PLACE), NAME(CLASSIC_SHARED_WORD),  NAME(CLASSIC_NO_SECTION),
-        NAME(CLASSIC_APPEND_INDEX),  NAME(CLASSIC_APPEND_PARTS), NAME(CLASSIC_APPEND_GROWTH),
-        NAME(CLASSIC_APPEND_ROOM),   NAME(CLASSIC_ORDER),
+        NAME(CLASSIC_ACCEPTED),      NAME(CLASSIC_LENT_SHORT),    NAME(CLASSIC_FILE_CODE),
+        NAME(CLASSIC_RECLEN),        NAME(CLASSIC_LENT_LENGTH),   NAME(CLASSIC_KIND),
+        NAME(CLASSIC_INDEX_FORM),    NAME(CLASSIC_FLAGS),         NAME(CLASSIC_GROWTH),
+        NAME(CLASSIC_ENTRY_COUNT),   NAME(CLASSIC_NEXT_FREE),     NAME(CLASSIC_INDEX_AREA),
+        NAME(CLASSIC_LEFTOVERS),     NAME(CLASSIC_NUMBER),        NAME(CLASSIC_ENTRY_PLACE),
+        NAME(CLASSIC_ENTRY_CODE),    NAME(CLASSIC_ENTRY_LENGTH),  NAME(CLASSIC_ENTRY_XNUM),
+        NAME(CLASSIC_DATA_PLACE),    NAME(CLASSIC_SECTION_PLACE), NAME(CLASSIC_SHARED_WORD),
+        NAME(CLASSIC_NO_SECTION),    NAME(CLASSIC_APPEND_INDEX),  NAME(CLASSIC_APPEND_PARTS),
+        NAME(CLASSIC_APPEND_GROWTH), NAME(CLASSIC_APPEND_ROOM),   NAME(CLASSIC_ORDER),
     };
-    return refusal < sizeof names / sizeof names[0] ? names[refusal] : "a refusal that this program does not know";
+    const char *name = refusal < sizeof names / sizeof names[0] ? names[refusal] : NULL;
+    return name != NULL ? name : "a refusal that this program does not know";
 }
 
 /* Reads the file whole; says and gives 0 where that cannot be done. */

@@ -92,11 +92,14 @@ static void make_a(int32_t order) {
     append(additions, 3);
 }
 
-/* a.classic, file A; d.classic, the same with its last record lost; e.classic, file A in the big order. */
-static void write_a_d_and_e(const char *folder) {
+/* a.classic, file A; d.classic, the same with its last record lost; e.classic, file A in the big order; f.classic, file A
+   with an old address left in word 19, behind its two. */
+static void write_files_a(const char *folder) {
     make_a(CLASSIC_LITTLE);
     save(folder, "a.classic", bytes);
     save(folder, "d.classic", bytes - 4 * reclen);
+    put4(file + 4 * (19 - 1), 7);
+    save(folder, "f.classic", bytes);
     make_a(CLASSIC_BIG);
     save(folder, "e.classic", bytes);
 }
@@ -130,7 +133,7 @@ static void write_c(const char *folder) {
 
 int main(int argc, char **argv) {
     if (argc != 2) give_up("usage: writer FOLDER", 0);
-    write_a_d_and_e(argv[1]);
+    write_files_a(argv[1]);
     write_b(argv[1]);
     write_c(argv[1]);
     return 0;

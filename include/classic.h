@@ -59,9 +59,10 @@ extern "C" {
    are file + start to file + start + length, as long as the file is lent and unchanged. Each answer has a
    refusal, 0 when the call accepts; a refused call gives zeros elsewhere, only a check adds an entry number. */
 
-/* The refusals, in the order in which they are tested: a call gives the first that applies. Every call but create
-   tests 1 to 11; create tests 1 to 8 on its settings. extension_of adds 12; open, index_words and data add
-   12 to 19, section adds 20 to these; append adds 21 to 24; check adds 13 to 19 for each entry, and 25. */
+/* The refusals, in the order in which they are tested, which is not that of their numbers: a call gives the first that
+   applies. Every call but create tests 1 to 11 and then 29; create tests 1 to 8 on its settings. extension_of adds 12;
+   open, index_words and data add 12 to 19, section adds 20 to these; append adds 21 to 24; check adds 13 to 19 for each
+   entry, and 25. */
 enum classic_refusal {
     CLASSIC_ACCEPTED = 0,        /* no refusal */
     CLASSIC_LENT_SHORT = 1,      /* fewer than 64 bytes are lent */
@@ -75,6 +76,8 @@ enum classic_refusal {
     CLASSIC_ENTRY_COUNT = 9,     /* xnext is below 1, or the number of entries does not fit nex */
     CLASSIC_NEXT_FREE = 10,      /* nextrec below 2, nextword not 1 to reclen, or the next free word past the file */
     CLASSIC_INDEX_AREA = 11,     /* an index area starts too early, or the last one ends past the next free word */
+    CLASSIC_LEFTOVERS = 29,      /* a word of the first record after the addresses in use, 15 + 2 x nex to reclen, is
+                                    not zero */
     CLASSIC_NUMBER = 12,         /* the entry or extension number is 0 or above the last */
     CLASSIC_ENTRY_PLACE = 13,    /* the entry's record below 2, word not 1 to reclen, or start + 11 past the free word */
     CLASSIC_ENTRY_CODE = 14,     /* the entry code is not "2   " */

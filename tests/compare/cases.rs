@@ -4,7 +4,7 @@
 use crate::additions::{addition, spoil};
 use crate::damage::{codes, edges, fields, random_damage, turned, Field};
 use crate::examples::examples;
-use crate::files::{self, area_words, make, make_full, put_bare, together, Made, Shape};
+use crate::files::{self, area_words, make, make_full, most_extensions, put_bare, together, Made, Shape};
 use crate::random::Random;
 use crate::reference::{self, Addition, Order, Settings};
 use crate::script::{Asked, Call, Script};
@@ -13,7 +13,7 @@ use crate::script::{Asked, Call, Script};
 type Kind = fn(&mut Random, &mut Script);
 
 /// How many cases there are of each kind in each order, one kind after another.
-const PLAN: [(usize, Kind); 14] = [
+const PLAN: [(usize, Kind); 15] = [
     (1, examples),
     (20, every_edge),
     (6, last_of_64),
@@ -23,6 +23,7 @@ const PLAN: [(usize, Kind); 14] = [
     (60, cut_and_grown),
     (20, other_codes),
     (60, turned_over),
+    (4081, leftovers),
     (1000, damaged),
     (400, whole),
     (200, creations),
@@ -216,7 +217,7 @@ fn great_numbers(random: &mut Random, script: &mut Script) {
         script.call(Call::Open(xnext as u64 - 1));
     }
     for (nex, entries) in [(extensions + 1, entries + 1), (extensions - 1, entries)] {
-        recount(script, nex, entries);
+        recount(script, extensions, nex, entries);
         all_readings(random, script, &made, entries as u64);
     }
 }
@@ -256,7 +257,7 @@ fn try_growth(random: &mut Random, script: &mut Script, settings: &Settings, ext
     script.lend(&made.bytes, made.bytes.len());
     for nex in extensions - 1..=extensions + 1 {
         for entries in [held(nex - 1), held(nex - 1) + 1, held(nex) - 1, held(nex), held(nex) + 1] {
-            recount(script, nex, entries);
+            recount(script, extensions, nex, entries);
             if script.call(Call::Validate) != 0 {
                 script.call(reading(random, &made, entries as u64));
                 continue;
@@ -270,9 +271,11 @@ fn try_growth(random: &mut Random, script: &mut Script, settings: &Settings, ext
     }
 }
 
-/// Makes the file what it was when it was lent, but for nex and the number of entries.
-fn recount(script: &mut Script, nex: usize, entries: usize) {
+/// Makes the file what it was when it was lent, with so many extensions, but for nex and the number of entries; the
+/// addresses past nex become zero.
+fn recount(script: &mut Script, extensions: usize, nex: usize, entries: usize) {
     script.again();
+    script.poke(4 * (14 + 2 * nex), &vec![0; 8 * extensions.saturating_sub(nex)]);
     script.poke(4 * 12, &script.order.bytes4(nex as i32));
     script.poke(4 * 6, &script.order.bytes8(entries as i64 + 1));
 }
@@ -349,6 +352,45 @@ fn turned_over(random: &mut Random, script: &mut Script) {
     assert_eq!(before, after, "the reference does not read a file in both orders alike");
     append(random, script, shape.settings.lind, 8);
     script.call(Call::Check);
+}
+
+/// A file of each reclen in turn, 16 to 4,096, with one bit set after the addresses in use: in the first word there, in
+/// the last, about the sixteenth place of an address, and anywhere; then with an index area broken too, and created anew.
+fn leftovers(random: &mut Random, script: &mut Script) {
+    let (reclen, lind) = (16 + script.turn, random.from(3, 6) as i32);
+    let settings = Settings { reclen: reclen as i32, lind, lex1: 1, gex: 10, ..files::settings(random, script.order) };
+    let most = most_extensions(&settings);
+    let extensions = random.from(0, if reclen < 200 || random.once_in(20) { most } else { 2 });
+    let made = make_full(&settings, extensions, 2);
+    script.lend(&made.bytes, made.bytes.len());
+    script.call(Call::Validate);
+    let first = 15 + 2 * extensions;
+    if first <= reclen {
+        for word in [first, reclen, 46, 47, random.from(first, reclen)] {
+            if (first..=reclen).contains(&word) {
+                script.again();
+                script.poke(4 * (word - 1) + random.from(0, 3), &[1 << random.from(0, 7)]);
+                script.call(Call::Validate);
+                read_or_append(random, script, &made);
+            }
+        }
+        if extensions > 0 {
+            script.poke(4 * 14, &script.order.bytes8(1));
+            read_or_append(random, script, &made);
+        }
+    }
+    script.call(Call::Create(settings));
+    script.call(Call::Validate);
+    append(random, script, lind, 8);
+}
+
+/// A call that reads, about the first entry, or an append.
+fn read_or_append(random: &mut Random, script: &mut Script, made: &Made) {
+    if random.once_in(4) {
+        append(random, script, made.settings.lind, 8);
+    } else {
+        script.call(reading(random, made, 1));
+    }
 }
 
 /// Puts a shape's entries out of order, lets them overlap or have 65 sections, once in so many times.

@@ -32,7 +32,8 @@ pub fn fields(made: &Made) -> Vec<Field> {
     fields
 }
 
-/// The fields of the first record.
+/// The fields of the first record, and after the addresses in use the first two words, those about the sixteenth place
+/// of an address, and the last two.
 fn first_record(made: &Made) -> Vec<Field> {
     let s = &made.settings;
     let nex = made.areas.len();
@@ -63,6 +64,12 @@ fn first_record(made: &Made) -> Vec<Field> {
         }
         fields.push(field(13 + 2 * k, Form::Integer8, &limits));
     }
+    let (after, reclen) = (15 + 2 * nex, made.reclen());
+    let mut rest = vec![after, after + 1, 46, 47, reclen - 1, reclen];
+    rest.sort_unstable();
+    rest.dedup();
+    rest.retain(|word| (after..=reclen).contains(word));
+    fields.extend(rest.into_iter().map(|word| field(word, Form::Integer4, &[])));
     fields
 }
 

@@ -1,5 +1,5 @@
-//! The examples that document 01 works by hand, with the capacities of Q-2 in document 02 and in both orders of Q-4, as
-//! the first cases: the reference must give the numbers and bytes written here, and the library is compared with the
+//! The examples that document 01 works by hand, with the capacities of Q-2 in document 02 and in both orders of Q-4, and
+//! those of Q-7, as the first cases: the reference must give the numbers and bytes written here, and the library is compared with the
 //! reference.
 
 use crate::files::make_full;
@@ -40,6 +40,7 @@ pub fn examples(_: &mut Random, script: &mut Script) {
     capacities(script);
     great_capacities(script);
     limits(script);
+    leftovers(script);
 }
 
 /// P1 to P5 and the listing: file A, and with a record fewer.
@@ -150,4 +151,34 @@ fn limits(script: &mut Script) {
     expect(script, "P12", Call::Append(Addition::default()), &[0, 1]);
     script.poke(4 * (16 + 16 + 5), &[0xff; 8]);
     expect(script, "P12", Call::Open(1), &[0, 3, 1, 0, 0, 11, u64::MAX, 0]);
+}
+
+/// file A after (2), whose nex is 1, with a byte of words 17 to 20 not zero, alone and with its index area at record 1;
+/// it takes no entry and stays; and A created over it. The file with reclen 21 has an odd last word.
+fn leftovers(script: &mut Script) {
+    let [first, second, third] = additions();
+    for reclen in [20, 21] {
+        let settings = settings(script.order, reclen, 4, 2, 20);
+        let size = 24 * reclen as usize;
+        script.lend(&vec![0xff; size], size);
+        expect(script, "creating A", Call::Create(settings), &[0]);
+        expect(script, "append (1)", Call::Append(first.clone()), &[0, 1]);
+        expect(script, "append (2)", Call::Append(second.clone()), &[0, 2]);
+        let admitted = script.file.clone();
+        for word in 17..=reclen as usize {
+            script.lend(&admitted, size);
+            expect(script, "A after (2)", Call::Check, &[0, 0]);
+            script.poke(4 * word - 2, &[1]);
+            let left = script.file.clone();
+            expect(script, "Q-7, validate", Call::Validate, &[29, 0, 0]);
+            expect(script, "Q-7, open", Call::Open(1), &[29, 0, 0]);
+            expect(script, "Q-7, check", Call::Check, &[0, 29]);
+            expect(script, "Q-7, append", Call::Append(third.clone()), &[29, 0]);
+            assert_eq!(script.file, left, "the reference changes a file that it refuses");
+            script.poke(4 * 14, &script.order.bytes8(1));
+            expect(script, "Q-7, an index area broken too", Call::Validate, &[11, 0, 0]);
+            expect(script, "Q-7, creation", Call::Create(settings), &[0]);
+            expect(script, "Q-7, after creation", Call::Check, &[0, 0]);
+        }
+    }
 }

@@ -296,7 +296,7 @@ fn identifiers(random: &mut Random, count: usize) -> Vec<i32> {
     ids
 }
 
-/// Writes the first record's fields; the rest of the record stays.
+/// Writes the first record: its fields, and zeros after the addresses in use.
 fn put_first_record(made: &mut Made, entries: usize) {
     let (s, order, reclen) = (made.settings, made.order(), made.reclen());
     put(&mut made.bytes, 0, &order.code());
@@ -311,6 +311,7 @@ fn put_first_record(made: &mut Made, entries: usize) {
     for (k, area) in made.areas.iter().enumerate() {
         put(&mut made.bytes, 14 + 2 * k, &order.bytes8((area / reclen) as i64 + 1));
     }
+    made.bytes[4 * (14 + 2 * made.areas.len())..4 * reclen].fill(0);
 }
 
 /// A position as a record number and a word number: three words.

@@ -1,5 +1,5 @@
-//! The independent implementation of document 01, with the capacities of Q-2 and the byte orders of Q-4 in document 02,
-//! plain and slow, over the lent bytes of a file: written from these papers and the memo alone. Every number is an
+//! The independent implementation of document 01, with the capacities of Q-2, the byte orders of Q-4 and the leftovers of
+//! Q-7 in document 02, plain and slow, over the lent bytes of a file: written from these papers and the memo alone. Every number is an
 //! i128, so that no sum or product of stored numbers can wrap.
 
 /// The code of an entry, in files of both orders.
@@ -360,7 +360,19 @@ fn test_areas(d: &Descriptor) -> Result<(), Refusal> {
     Ok(())
 }
 
-/// Validates the first record: refusals 1 to 11.
+/// Refusal 29: the words of the first record after the addresses in use.
+fn test_leftovers(file: &[u8], d: &Descriptor) -> Result<(), Refusal> {
+    let places = 14 + 2 * mex(d.reclen);
+    for word in 15 + 2 * d.nex..=d.reclen {
+        if bytes_at(file, word - 1) != [0; 4] {
+            let way = if word <= places { "in a place of an address" } else { "past the places of addresses" };
+            return refuse(29, way);
+        }
+    }
+    Ok(())
+}
+
+/// Validates the first record: refusals 1 to 11, then 29.
 pub fn validate(file: &[u8]) -> Result<Descriptor, Refusal> {
     test_enough_lent(file.len())?;
     let Some(order) = Order::of_file(file) else {
@@ -398,6 +410,7 @@ pub fn validate(file: &[u8]) -> Result<Descriptor, Refusal> {
     test_count(&d)?;
     test_free(&d, file.len())?;
     test_areas(&d)?;
+    test_leftovers(file, &d)?;
     Ok(d)
 }
 
@@ -625,7 +638,7 @@ fn sum(lengths: &[i64]) -> i128 {
     lengths.iter().map(|&length| length as i128).sum()
 }
 
-/// Appends an entry: refusals 1 to 11 and 21 to 24, then the writes; answers the new number.
+/// Appends an entry: refusals 1 to 11, 29 and 21 to 24, then the writes; answers the new number.
 pub fn append(file: &mut [u8], a: &Addition) -> Result<u64, Refusal> {
     let mut d = validate(file)?;
     test_addition(&d, a)?;

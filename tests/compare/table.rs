@@ -8,19 +8,19 @@ use std::collections::BTreeMap;
 /// The refusals that each call admits, in the order of CALLS: first to last, both included; 0 is acceptance.
 const ADMITTED: [&[(u32, u32)]; 9] = [
     &[(0, 8)],
-    &[(0, 11)],
-    &[(0, 12)],
-    &[(0, 19)],
-    &[(0, 19)],
-    &[(0, 20)],
-    &[(0, 19)],
-    &[(0, 11), (13, 19), (25, 25)],
-    &[(0, 11), (21, 24)],
+    &[(0, 11), (29, 29)],
+    &[(0, 12), (29, 29)],
+    &[(0, 19), (29, 29)],
+    &[(0, 19), (29, 29)],
+    &[(0, 20), (29, 29)],
+    &[(0, 19), (29, 29)],
+    &[(0, 11), (13, 19), (25, 25), (29, 29)],
+    &[(0, 11), (21, 24), (29, 29)],
 ];
 
 /// The parts of the refusals' sentences in 01 and 02: each must have been the reason of a refusal at least once in each
 /// order.
-const WAYS: [(u32, &[&str]); 25] = [
+const WAYS: [(u32, &[&str]); 26] = [
     (1, &["fewer than 64 bytes"]),
     (2, &["code", "order"]),
     (3, &["reclen"]),
@@ -70,6 +70,7 @@ const WAYS: [(u32, &[&str]); 25] = [
             "the last past the next area's start",
         ],
     ),
+    (29, &["in a place of an address", "past the places of addresses"]),
 ];
 
 /// How often something was seen in each order, by the order's number.
@@ -80,6 +81,11 @@ type Seen = [usize; 2];
 pub struct Table {
     cells: BTreeMap<(usize, u32), Seen>,
     ways: BTreeMap<(u32, &'static str), Seen>,
+}
+
+/// 0 and the refusals, in the order of their numbers.
+fn refusals() -> impl Iterator<Item = u32> {
+    (0..=25).chain([29])
 }
 
 /// Says whether 01 and 02 admit a refusal as a call's answer.
@@ -111,7 +117,7 @@ impl Table {
     /// nothing is admitted.
     pub fn print(&self) {
         println!("{:>7} {}", "refusal", CALLS.map(|call| format!("{call:>14}")).concat());
-        for refusal in 0..=25 {
+        for refusal in refusals() {
             let cells = (0..CALLS.len()).map(|call| match self.cell(call, refusal) {
                 [0, 0] if !admits(call, refusal) => format!("{:>14}", "."),
                 [little, big] => format!("{:>14}", format!("{little}/{big}")),
@@ -129,7 +135,7 @@ impl Table {
     pub fn wrong_cells(&self) -> Vec<String> {
         let mut wrong = vec![];
         for (call, name) in CALLS.iter().enumerate() {
-            for (order, refusal) in Order::BOTH.into_iter().flat_map(|order| (0..=25).map(move |r| (order, r))) {
+            for (order, refusal) in Order::BOTH.into_iter().flat_map(|order| refusals().map(move |r| (order, r))) {
                 match (admits(call, refusal), self.cell(call, refusal)[order as usize]) {
                     (true, 0) => wrong.push(format!("no agreed answer {refusal} of {name}, {}", order.name())),
                     (false, seen) if seen > 0 => wrong.push(format!("{refusal} of {name}, which is not admitted")),

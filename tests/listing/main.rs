@@ -236,7 +236,7 @@ fn sort(line: &str) -> String {
 
 /// The sorts of lines that a run must see in each order.
 fn sorts() -> Vec<String> {
-    let mut sorts: Vec<String> = (1..=11).map(|number| format!("file refused {number}")).collect();
+    let mut sorts: Vec<String> = (1..=11).chain([29]).map(|number| format!("file refused {number}")).collect();
     sorts.extend((13..=19).map(|number| format!("entry refused {number}")));
     let others = ["entry listed", "no entries", "a number of five digits", "over 5000 entries"];
     sorts.extend(others.map(String::from));

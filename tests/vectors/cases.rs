@@ -250,7 +250,6 @@ pub fn filling() {
     wide("aex 2", 17, "", &[("2", 2), ("3", 3), ("6", 6)]);
     validate("A aex 2 6, next free at its end", &with8(next(7, 1), 17, 6));
     wide("aex 2", 17, "", &[("-1", -1), ("2^32 + 5", WORD + 5), ("2^62 + 5", WRAP + 5), ("2^63 - 1", i64::MAX)]);
-    describe("A aex 2 5 1, the third not in use", &with8(a(), 19, 1));
 }
 
 /// Refusals 12 to 16 in file A.

@@ -3,6 +3,7 @@
 
 mod cases;
 mod files;
+mod leftovers;
 mod lines;
 mod orders;
 #[path = "../compare/reference.rs"]
@@ -32,4 +33,5 @@ fn main() {
     orders::big_ordering();
     cases::every_call(Order::Big);
     orders::other_code();
+    leftovers::leftovers();
 }

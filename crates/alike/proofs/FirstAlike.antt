@@ -1,13 +1,13 @@
 -- Two files with the same first record, of which the second is as long or longer, validate alike. Assumes nothing.
 use Prim.Native.Nat.{ℕ, _+_, _*_, _-_, _%_, _^_, _≤_, _<_}
-use mathlib.Core.Path.{_≡_, ap}
+use mathlib.Core.Path.{_≡_, ap, _∙_}
 use mathlib.Core.Bool.{true}
 use mathlib.Core.List.{List}
 use native.Mathlib.Omega.{arith}
 use borrow.Author.Tests.{ltb-true}
 use lib.Dec.{ltb}
 use lib.ListN.{length}
-use Rattle.image.specs.Image.{part}
+use Rattle.image.specs.Image.{part, allZero}
 use Rattle.words.specs.Word.{integer4, integer8}
 use Rattle.words.proofs.Access.{bits-alike}
 use Rattle.words.proofs.Table.{places-same}
@@ -15,11 +15,12 @@ use Rattle.geometry.specs.declared.units.RecordNumber.{RecordNumber}
 use Rattle.geometry.specs.declared.units.WordNumber.{WordNumber}
 use Rattle.descriptor.specs.declared.numbers.DescriptorNumbers.{DescriptorNumbers}
 use Rattle.descriptor.specs.declared.validating.Validated.the-variants.{Numbers}
-use Rattle.layout.specs.FirstRecordWords.{aexWord}
+use Rattle.geometry.specs.Units.{offsetOf, firstRecordOffsetOf}
+use Rattle.layout.specs.FirstRecordWords.{aexWord, afterAex}
 use Rattle.layout.specs.FileCode.{byteOrderOf}
 use Rattle.layout.proofs.FileCodes.{order-alike}
 use Rattle.descriptor.specs.FirstRecord.{field4, field8, numbersOf, aexAt, addressesOf}
-use Rattle.descriptor.specs.Rules.{fileRefusal}
+use Rattle.descriptor.specs.Rules.{noLeftovers, fileRefusal}
 use Rattle.descriptor.specs.Answers.{validationOf}
 use Rattle.descriptor.specs.Bounds.{Admitted}
 use Rattle.descriptor.proofs.Answered.{file-passed, file-admitted}
@@ -61,6 +62,13 @@ module _ (f g : List ℕ) (z : fileRefusal f ≡ 0) (first : part g 0 (4 * numbe
       places-same 16 (d .nex) (aexAt g) (aexAt f) (record { 0 = 0 })
       (λ i h. ap {B = RecordNumber} (λ (n : ℕ). record { 0 = n }) (field8-alike (aexWord i) (omega (arith, admits .settled .nex-room))))
 
+  clear-alike : noLeftovers g d ≡ true
+  unfolding noLeftovers
+  clear-alike =
+      let start = firstRecordOffsetOf (afterAex (d .nex)) in
+      let rest = offsetOf (d .reclen) - start in
+      ap allZero (bytes-alike start rest (omega (arith, admits .settled .nex-room))) ∙ file-passed f z .clear
+
   -- the second file is admitted, with the numbers and addresses of the first
   pub first-alike : length f ≤ length g → length g ≤ 2 ^ 30 → length g % (4 * d .reclen) ≡ 0
       → validationOf g ≡ record { refusal = 0; numbers = Numbers d; addresses = addressesOf f (d .nex) }
@@ -79,3 +87,4 @@ module _ (f g : List ℕ) (z : fileRefusal f ≡ 0) (first : part g 0 (4 * numbe
         ended = admits .ended;
         table = admits .table;
       })
+      clear-alike

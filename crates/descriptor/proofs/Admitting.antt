@@ -17,7 +17,7 @@ use Rattle.geometry.proofs.Capacities.{total-limit}
 use Rattle.descriptor.specs.declared.numbers.DescriptorNumbers.{DescriptorNumbers}
 use Rattle.descriptor.specs.declared.validating.Validated.the-variants.{Numbers}
 use Rattle.descriptor.specs.FirstRecord.{numbersOf, addressesOf, mexOf, growthIn, freeOf}
-use Rattle.descriptor.specs.Rules.{settingRefusal, fillingRefusal}
+use Rattle.descriptor.specs.Rules.{settingRefusal, fillingRefusal, noLeftovers}
 use Rattle.descriptor.specs.Bounds.{Admitted}
 use Rattle.descriptor.specs.Answers.{validationOf}
 use Rattle.descriptor.proofs.Fitting.{fit-reach}
@@ -100,8 +100,8 @@ order-known d t = within-bounds w32 0 1 (d .order .0) (omega arith) (t .order) .
 
 -- so validating gives them, where a file has them
 pub validated : (file : List ℕ) (d : DescriptorNumbers) (addresses : List RecordNumber) → numbersOf file ≡ d → addressesOf file (d .nex) ≡ addresses
-    → 64 ≤ length file → Apt d → Admitted (length file) d addresses
+    → 64 ≤ length file → Apt d → Admitted (length file) d addresses → noLeftovers file d ≡ true
     → validationOf file ≡ record { refusal = 0; numbers = Numbers d; addresses = addresses }
-validated file d addresses e f l t a =
-    let none = rw (e, f, setting-none (length file) d addresses a t, filling-none (length file) d addresses a) at (file-rest file (le-leb 64 (length file) l)) in
+validated file d addresses e f l t a clear =
+    let none = rw (e, f, setting-none (length file) d addresses a t, filling-none (length file) d addresses a, clear) at (file-rest file (le-leb 64 (length file) l)) in
     answer-numbers file none ∙ rw (e, f)

@@ -3,7 +3,7 @@ use native.Mathlib.Decide.{ℕ-discrete}
 use Prim.Native.Nat.{ℕ, _≤_}
 use mathlib.Core.Path.{_≡_, refl, ap, _∙_}
 use mathlib.Core.Bool.{true, false, cond}
-use mathlib.Core.List.{List}
+use mathlib.Core.List.{List, [], _∷_, _++_}
 use native.Mathlib.Omega.{arith}
 use borrow.Author.Tests.{leb-true, ne-eqb}
 use lib.Dec.{leb, eqb}
@@ -15,8 +15,9 @@ use Rattle.descriptor.specs.declared.validating.Validated.{Validated}
 use Rattle.descriptor.specs.declared.validating.Validated.the-variants.{Numbers, Refused}
 use Rattle.descriptor.specs.declared.validating.Validation.{Validation}
 use Rattle.layout.specs.FileCode.{byteOrderOf}
+use Rattle.descriptor.specs.Refusal.{Rule, row}
 use Rattle.descriptor.specs.FirstRecord.{numbersOf, addressesOf}
-use Rattle.descriptor.specs.Rules.{settingRules, fillingRules, fileRules, settingRefusal, fillingRefusal, fileRefusal}
+use Rattle.descriptor.specs.Rules.{settingRules, fillingRules, noLeftovers, fileRules, settingRefusal, fillingRefusal, fileRefusal}
 use Rattle.descriptor.specs.Answers.{validationOf, noValidation, validatedCase, extensionIn, extensionOf}
 use Rattle.descriptor.specs.Bounds.{Admitted, AdmittedIn}
 use Rattle.descriptor.proofs.Refusals.{refusal-append, refusal-none, all-hold, hold-split}
@@ -30,27 +31,37 @@ module _ (file : List ℕ) where
   abbrev d : DescriptorNumbers
   d = numbersOf file
 
-  -- behind rule 1 the settings count, and then the filling
-  pub file-rest : leb 64 (length file) ≡ true
-      → fileRefusal file ≡ cond (eqb (settingRefusal (length file) d) 0) (fillingRefusal (length file) d (addressesOf file (d .nex))) (settingRefusal (length file) d)
+  -- the parts of its table behind rule 1: 2 to 8, 9 to 11, and 29
+  abbrev settings : List Rule
+  settings = settingRules (length file) d
+
+  abbrev filling : List Rule
+  filling = fillingRules (length file) d (addressesOf file (d .nex))
+
+  abbrev leftovers : List Rule
+  leftovers = row 29 (noLeftovers file d) ∷ []
+
+  -- the settings count, then the filling, and then the leftovers
+  pub file-rest : leb 64 (length file) ≡ true → let s = settingRefusal (length file) d in let f = fillingRefusal (length file) d (addressesOf file (d .nex)) in
+      fileRefusal file ≡ cond (eqb s 0) (cond (eqb f 0) (cond (noLeftovers file d) 0 29) f) s
   unfolding fileRefusal settingRefusal fillingRefusal
-  file-rest h = rw h (refusal-append (settingRules (length file) d) (fillingRules (length file) d (addressesOf file (d .nex))) (omega arith))
+  file-rest h = rw (h, ← (refusal-append filling leftovers (omega arith))) (refusal-append settings (filling ++ leftovers) (omega arith))
 
   -- what a file with no refusal shows: it passed them all
   pub record FilePassed : Type 0 where
     pub long : 64 ≤ length file
     pub settings : settingRefusal (length file) d ≡ 0
     pub filling : fillingRefusal (length file) d (addressesOf file (d .nex)) ≡ 0
+    pub clear : noLeftovers file d ≡ true
 
   -- a file with no refusal passed them
   pub file-passed : fileRefusal file ≡ 0 → FilePassed
   unfolding fileRefusal settingRefusal fillingRefusal
   file-passed e =
-      let settings = settingRules (length file) d in
-      let filling = fillingRules (length file) d (addressesOf file (d .nex)) in
       let a = all-hold (fileRules file d (addressesOf file (d .nex))) (omega arith) e in
-      let b = hold-split settings filling (a .1) in
-      record { long = leb-true 64 (length file) (a .0); settings = refusal-none settings (b .0); filling = refusal-none filling (b .1) }
+      let b = hold-split settings (filling ++ leftovers) (a .1) in
+      let c = hold-split filling leftovers (b .1) in
+      record { long = leb-true 64 (length file) (a .0); settings = refusal-none settings (b .0); filling = refusal-none filling (c .0); clear = c .1 .0 }
 
   -- so its numbers and addresses are admitted
   pub file-admitted : fileRefusal file ≡ 0 → Admitted (length file) d (addressesOf file (d .nex))

@@ -1,15 +1,17 @@
--- The rules of the first record as one table in the order of 01, refusals 1 to 11.
-use Prim.Native.Nat.{ℕ, zero, suc, _/_, _%_, _^_}
+-- The rules of the first record as one table in the order of 01, refusals 1 to 11 and then 29.
+use Prim.Native.Nat.{ℕ, zero, suc, _-_, _/_, _%_, _^_}
 use mathlib.Core.Bool.{Bool, not, _&&_}
 use mathlib.Core.List.{List, [], _∷_, _++_}
 use lib.ListN.{length}
 use lib.Dec.{leb, ltb, eqb}
+use Rattle.image.specs.Image.{part, allZero}
 use Rattle.words.specs.Word.{integer4, integer8, signedOf}
 use Rattle.words.specs.Range.{within, atLeast}
 use Rattle.geometry.specs.declared.units.RecordNumber.{RecordNumber}
 use Rattle.geometry.specs.declared.growth.Growth.{Growth}
-use Rattle.geometry.specs.Units.{offsetOf, entriesBefore}
+use Rattle.geometry.specs.Units.{offsetOf, firstRecordOffsetOf, entriesBefore}
 use Rattle.geometry.specs.Growth.{totalOf, overOf}
+use Rattle.layout.specs.FirstRecordWords.{afterAex}
 use Rattle.descriptor.specs.declared.numbers.DescriptorNumbers.{DescriptorNumbers}
 use Rattle.descriptor.specs.Refusal.{Rule, row, refusalIn}
 use Rattle.descriptor.specs.FirstRecord.{numbersOf, addressesOf, mexOf, growthIn, freeOf}
@@ -49,6 +51,13 @@ fillingRules bytes d addresses =
     row 11 (areasEnd d addresses) ∷
     []
 
+-- rule 29: the words of the first record after the addresses in use, words 15 + 2 × nex to reclen, are zero
+unfoldable pub noLeftovers : List ℕ → DescriptorNumbers → Bool
+noLeftovers file d =
+    let start = firstRecordOffsetOf (afterAex (d .nex)) in
+    let end = offsetOf (d .reclen) in
+    allZero (part file start (end - start))
+
 -- the refusal of the settings, 0 where all their rules hold
 unfoldable pub settingRefusal : ℕ → DescriptorNumbers → ℕ
 settingRefusal bytes d = refusalIn (settingRules bytes d)
@@ -60,7 +69,7 @@ fillingRefusal bytes d addresses = refusalIn (fillingRules bytes d addresses)
 -- the whole table
 abbrev pub fileRules : List ℕ → DescriptorNumbers → List RecordNumber → List Rule
 fileRules file d addresses =
-    row 1 (leb 64 (length file)) ∷ settingRules (length file) d ++ fillingRules (length file) d addresses
+    row 1 (leb 64 (length file)) ∷ settingRules (length file) d ++ fillingRules (length file) d addresses ++ row 29 (noLeftovers file d) ∷ []
 
 -- creation's: 1 to 8
 abbrev pub creationRules : ℕ → DescriptorNumbers → List Rule

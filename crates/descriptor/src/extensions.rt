@@ -32,7 +32,7 @@ fn refused(refusal: u32) -> Extension
     }
 }
 
-// An extension of a file by its number, or the refusal: 1 to 11, then 12.
+// An extension of a file by its number, or the refusal: 1 to 11 and 29, then 12.
 pub fn extension_of(file: &[u8], number: ExtensionNumber) -> Extension
     ensures { λ r. ⌜ Answers (extensionOf (now (file .entry)) number) r ⌝ }
 {

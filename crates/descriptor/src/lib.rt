@@ -1,12 +1,13 @@
 // The file descriptor: the first record, its rules, and the extensions that it speaks of.
 //
 // A file is a lent slice of bytes, of any content and any length. `validate` gives the descriptor's
-// numbers or the number of the first rule that the file breaks (1 to 11); it reads the first record
-// alone. The functions of `inner` are for the crates above, which have validated before they call.
+// numbers or the number of the first rule that the file breaks (1 to 11, then 29); it reads the first
+// record alone. The functions of `inner` are for the crates above, which have validated before they call.
 mod addresses;
 mod areas;
 mod extensions;
 pub mod inner;
+mod leftovers;
 mod numbers;
 mod rules;
 mod validating;

@@ -1,5 +1,6 @@
 // Validating a file's descriptor.
 use super::addresses::addresses_of;
+use super::leftovers::no_leftovers;
 use super::numbers::DescriptorNumbers;
 use super::numbers::numbers_of;
 use super::rules::filling_refusal;
@@ -42,7 +43,7 @@ fn refused(refusal: u32) -> Validation
     }
 }
 
-// The descriptor's numbers and addresses, or the first rule of 1 to 11 that the file breaks.
+// The descriptor's numbers and addresses, or the first rule of 1 to 11 and 29 that the file breaks.
 pub fn validate(file: &[u8]) -> Validation
     ensures { λ r. ⌜ Answers (validationOf (now (file .entry))) r ⌝ }
 {
@@ -59,6 +60,9 @@ pub fn validate(file: &[u8]) -> Validation
     let filling = filling_refusal(bytes, d, addresses);
     if filling != 0 {
         return refused(filling);
+    }
+    if !no_leftovers(file, d) {
+        return refused(29);
     }
     Validation {
         refusal: 0,

@@ -1,7 +1,7 @@
 // One entry of a file: opening it by its number.
 //
-// `open_entry` validates the file first and refuses by a number of 1 to 19. The functions of `inner` are
-// for the crates above, which have validated before they call.
+// `open_entry` validates the file first and refuses by 1 to 11, 29, or 12 to 19, in this order. The
+// functions of `inner` are for the crates above, which have validated before they call.
 mod answers;
 mod entered;
 pub mod inner;

@@ -13,7 +13,8 @@ use pieces::section_tables;
 ghost use Rattle.outcome.specs.Outcome.{Answers};
 ghost use Rattle.entry.specs.Answers.{openOf};
 
-// Opens an entry by its number: its numbers and tables, or the first rule of 1 to 19 that is broken.
+// Opens an entry by its number: its numbers and tables, or the first rule of 1 to 11, 29 and 12
+// to 19 that is broken.
 pub fn open_entry(file: &[u8], number: EntryNumber) -> Opened
     ensures { λ r. ⌜ Answers (openOf (now (file .entry)) number) r ⌝ }
 {

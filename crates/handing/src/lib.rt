@@ -1,9 +1,9 @@
 // Handing out an entry's index words, sections and data.
 //
-// Every call validates the file first and refuses by a number of 1 to 20. A part that is handed out is
-// the very part of the lent slice; where it is empty, a call with the same arguments and `_refusal`
-// behind its name tells a refusal from a part with nothing in it. The functions of `inner` are for
-// callers that have validated before they call.
+// Every call validates the file first and refuses by 1 to 11, 29, or 12 to 20, in this order. A part
+// that is handed out is the very part of the lent slice; where it is empty, a call with the same
+// arguments and `_refusal` behind its name tells a refusal from a part with nothing in it. The functions
+// of `inner` are for callers that have validated before they call.
 pub mod inner;
 mod parts;
 mod place;

@@ -11,7 +11,8 @@ use geometry::EntryNumber;
 ghost use Rattle.outcome.specs.Outcome.{Answers};
 ghost use Rattle.handing.specs.Parts.{indexWordsOf, sectionWordsOf, dataWordsOf, IsPart};
 
-// Where the application's words of an entry's index stand, or the first rule of 1 to 19 that is broken.
+// Where the application's words of an entry's index stand, or the first rule of 1 to 11, 29 and
+// 12 to 19 that is broken.
 pub fn index_words_place(file: &[u8], number: EntryNumber) -> PartPlace
     ensures { λ r. ⌜ Answers (indexWordsOf (now (file .entry)) number) r ⌝ }
 {
@@ -41,7 +42,8 @@ pub fn index_words_refusal(file: &[u8], number: EntryNumber) -> u32
     index_words_place(file, number).refusal
 }
 
-// Where the first section with an identifier stands, or the first rule of 1 to 20 that is broken.
+// Where the first section with an identifier stands, or the first rule of 1 to 11, 29 and 12 to 20
+// that is broken.
 pub fn section_place(file: &[u8], number: EntryNumber, identifier: i32) -> PartPlace
     ensures { λ r. ⌜ Answers (sectionWordsOf (now (file .entry)) number identifier) r ⌝ }
 {
@@ -77,7 +79,7 @@ pub fn section_refusal(file: &[u8], number: EntryNumber, identifier: i32) -> u32
     section_place(file, number, identifier).refusal
 }
 
-// Where the data of an entry stands, or the first rule of 1 to 19 that is broken.
+// Where the data of an entry stands, or the first rule of 1 to 11, 29 and 12 to 19 that is broken.
 pub fn data_array_place(file: &[u8], number: EntryNumber) -> PartPlace
     ensures { λ r. ⌜ Answers (dataWordsOf (now (file .entry)) number) r ⌝ }
 {

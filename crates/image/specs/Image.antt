@@ -1,6 +1,8 @@
--- An image is a list of bytes; offsets count from 0. A part of it, the image with bytes written over it, and a run of zeros.
+-- An image is a list of bytes; offsets count from 0. A part of it, the image with bytes written over it, a run of zeros, and whether bytes are all zero.
 use Prim.Native.Nat.{ℕ, zero, suc}
+use mathlib.Core.Bool.{Bool, true, _&&_}
 use mathlib.Core.List.{List, [], _∷_}
+use lib.Dec.{eqb}
 use lib.ListN.{take, drop, replicate}
 
 -- the n bytes from offset at on; fewer where the image ends before
@@ -18,3 +20,8 @@ splice (x ∷ image) zero (y ∷ ys) = y ∷ splice image zero ys
 -- n zeros
 unfoldable pub zeros : ℕ → List ℕ
 zeros n = replicate n 0
+
+-- every byte is zero
+unfoldable pub allZero : List ℕ → Bool
+allZero [] = true
+allZero (b ∷ bytes) = eqb b 0 && allZero bytes

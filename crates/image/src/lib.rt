@@ -1,12 +1,13 @@
-// Bytes of a file image: copying a run of bytes to an offset, and filling a run with zeros.
+// Bytes of a file image: copying a run of bytes to an offset, filling a run with zeros, and whether
+// bytes are all zero.
 //
-// An image is a list of bytes, and offsets count bytes from 0. Each function says what the whole
-// slice holds at exit, so a caller learns of every byte whether it changed. Every write of this
+// An image is a list of bytes, and offsets count bytes from 0. A function that writes says what the
+// whole slice holds at exit, so a caller learns of every byte whether it changed. Every write of this
 // project goes through one of the two.
-ghost use Prim.Native.Nat.{_+_, _≤_};
+ghost use Prim.Native.Nat.{_+_, _≤_, max};
 ghost use lib.ListN.{length};
-ghost use Rattle.outcome.specs.Outcome.{Leaves};
-ghost use Rattle.image.specs.Image.{splice, zeros};
+ghost use Rattle.outcome.specs.Outcome.{Leaves, Answers};
+ghost use Rattle.image.specs.Image.{splice, zeros, allZero};
 
 // Copies all of `bytes` over the image from offset `at` on.
 pub fn put(image: &mut [u8], at: usize, bytes: &[u8])
@@ -30,4 +31,28 @@ pub fn zero(image: &mut [u8], at: usize, count: usize)
         image[at + done] = 0;
         done += 1;
     }
+}
+
+// The greater of two bytes.
+fn greater(a: u8, b: u8) -> u8
+    ensures { λ r. ⌜ Answers (max a b) r ⌝ }
+{
+    if a < b {
+        return b;
+    }
+    a
+}
+
+// Whether every byte is zero. The loop looks at all of them and keeps the greatest, which the compiler
+// turns into wide compares.
+pub fn all_zero(bytes: &[u8]) -> bool
+    ensures { λ r. ⌜ Answers (allZero (now (bytes .entry))) r ⌝ }
+{
+    let mut greatest = 0;
+    let mut done = 0;
+    while done < bytes.len() {
+        greatest = greater(greatest, bytes[done]);
+        done += 1;
+    }
+    greatest == 0
 }

@@ -57,3 +57,7 @@ gexWord = word 14
 -- from word 15: aex, two words for each extension: the first record of the index area of extension i + 1
 abbrev pub aexWord : ℕ → WordNumber
 aexWord i = word (15 + 2 * i)
+
+-- the word after the addresses of nex extensions
+abbrev pub afterAex : ℕ → WordNumber
+afterAex nex = word (15 + 2 * nex)

@@ -5,7 +5,7 @@ use geometry::table_index;
 ghost use Prim.Native.Nat.{_≤_};
 ghost use Rattle.outcome.specs.Outcome.{Answers};
 ghost use Rattle.geometry.specs.Units.{indexOf};
-ghost use Rattle.layout.specs.FirstRecordWords.{aexWord};
+ghost use Rattle.layout.specs.FirstRecordWords.{aexWord, afterAex};
 
 pub const CODE: WordNumber = WordNumber(1);
 
@@ -39,4 +39,12 @@ pub fn aex_word(extension: ExtensionNumber) -> WordNumber
     ensures { λ r. ⌜ Answers (aexWord (indexOf extension)) r ⌝ }
 {
     WordNumber(AEX.0 + 2 * (table_index(extension) as u64))
+}
+
+// The word after the addresses of so many extensions.
+pub fn after_aex(nex: u64) -> WordNumber
+    requires { ⌜ nex ≤ 16 ⌝ }
+    ensures { λ r. ⌜ Answers (afterAex nex) r ⌝ }
+{
+    WordNumber(AEX.0 + 2 * nex)
 }

@@ -1,6 +1,6 @@
 -- What an append to an admitted file answers: its refusal, and n + 1 where it is accepted; and the two cases of it. Assumes nothing.
 use Prim.Native.Nat.{ℕ}
-use mathlib.Core.Path.{_≡_, sym, _∙_}
+use mathlib.Core.Path.{_≡_, refl, sym, _∙_}
 use mathlib.Core.Bool.{true, false}
 use mathlib.Core.List.{List}
 use borrow.Author.Tests.{eqb-true, eqb-false, eq-eqb}
@@ -8,11 +8,12 @@ use lib.Dec.{eqb}
 use lib.ListN.{length}
 use Rattle.descriptor.specs.FirstRecord.{numbersOf}
 use Rattle.descriptor.specs.Rules.{fileRefusal}
-use Rattle.descriptor.proofs.Answered.{answer-numbers}
+use Rattle.descriptor.proofs.Answered.{answer-numbers, answer-refused}
 use Rattle.storing.specs.Handed.{Handed}
 use Rattle.writer.specs.Rules.{appendRefusal}
 use Rattle.writer.specs.Answers.{appendedFrom, appendIn, appendOf, fileAfter}
 use Rattle.outcome.proofs.Either.{either}
+use Rattle.promises.proofs.Scan.{by-file}
 use Rattle.promises.proofs.RefusedAnswers.{append-kept}
 
 module _ (file : List ℕ) (h : Handed) where
@@ -26,6 +27,11 @@ module _ (file : List ℕ) (h : Handed) where
   answer-there z =
       rw (answer-numbers file z)
       (either (eqb refusalThere 0) (λ q. rw q (sym (eqb-true refusalThere 0 q))) (λ q. rw q))
+
+  -- an append that is accepted was one to an admitted file
+  pub accepted-file : appendOf file h .refusal ≡ 0 → fileRefusal file ≡ 0
+  unfolding appendIn
+  accepted-file r = by-file file (λ q. q) (λ q. rw (answer-refused file (fileRefusal file) refl q) at r)
 
   -- an accepted one answers n + 1
   pub number-there : fileRefusal file ≡ 0 → refusalThere ≡ 0 → appendOf file h .number ≡ numbersOf file .xnext

@@ -2,7 +2,7 @@
 -- refuses everything, that an open gives one fixed entry, that an append answers a number and writes nothing or stores only the first entry, and that a listing has a
 -- made-up number of entries. Assumes nothing.
 use Prim.Native.Nat.{ℕ, _+_, _≤_, _<_}
-use mathlib.Core.Path.{_≡_, refl, sym, ap, _∙_}
+use mathlib.Core.Path.{_≡_, sym, ap, _∙_}
 use mathlib.Core.List.{List, [], _∷_, append-nil}
 use native.Mathlib.Omega.{arith}
 use lib.ListN.{length, take, length-append}
@@ -16,13 +16,13 @@ use Rattle.descriptor.specs.Refusal.{AllHold}
 use Rattle.descriptor.specs.FirstRecord.{numbersOf, addressesOf}
 use Rattle.descriptor.specs.Rules.{fileRefusal}
 use Rattle.descriptor.specs.Answers.{validationOf}
-use Rattle.descriptor.proofs.Answered.{answer-numbers, answer-refused}
+use Rattle.descriptor.proofs.Answered.{answer-numbers}
 use Rattle.entry.specs.declared.answers.Opened.{Opened}
 use Rattle.entry.specs.Answers.{openOf, openCase}
 use Rattle.writer.specs.declared.appending.Appended.{Appended}
 use Rattle.writer.specs.Creation.{Creates}
 use Rattle.storing.specs.Handed.{Handed, Integers}
-use Rattle.writer.specs.Answers.{appendIn, appendOf, Appends}
+use Rattle.writer.specs.Answers.{Appends}
 use Rattle.listing.specs.Text.{joined}
 use Rattle.listing.specs.Listing.{listingOf, overLimit, outputOf, Lists, Prints}
 use Rattle.listing.specs.Lines.{linesIn, AllLines, listingLines, LeavesLines}
@@ -37,10 +37,9 @@ use Rattle.promises.specs.FileA.{A}
 use Rattle.promises.specs.Examples.{entry, withSection, withoutSection, Differ}
 use Rattle.promises.proofs.Readings.{numbers-shown, length-contents}
 use Rattle.promises.proofs.Series.{after-accepted}
-use Rattle.promises.proofs.AppendNumbers.{answer-there, number-there}
+use Rattle.promises.proofs.AppendNumbers.{accepted-file, answer-there, number-there}
 use Rattle.promises.proofs.NewEntry.{reading-new}
 use Rattle.promises.proofs.Demand3.{demand-3}
-use Rattle.promises.proofs.Scan.{by-file}
 use Rattle.promises.proofs.OrderPassed.{check-passed}
 use Rattle.promises.proofs.RefusalMeans.{validate-means, create-means, open-means, append-means}
 use Rattle.promises.proofs.WorkedExamples.{first-entries, entries-differ}
@@ -80,11 +79,6 @@ module _ (answer : List ℕ → Settings → ℕ) (after : List ℕ → Settings
   -- every creation whose tests all hold is accepted
   pub creates-good-files : (file : List ℕ) (s : Settings) → AllHold (createTests (length file) s) → answer file s ≡ 0
   creates-good-files file s all = meets file s .0 ∙ create-means (length file) s .accepted all
-
--- an append that is accepted was one to an admitted file
-accepted-file : (file : List ℕ) (h : Handed) → appendOf file h .refusal ≡ 0 → fileRefusal file ≡ 0
-unfolding appendIn
-accepted-file file h z = by-file file (λ q. q) (λ q. rw (answer-refused file (fileRefusal file) refl q) at z)
 
 module _ (answer : List ℕ → Handed → Appended) (after : List ℕ → Handed → List ℕ) (meets : (file : List ℕ) (h : Handed) → Appends file h (answer file h) (after file h)) where
   -- every append whose tests all hold is accepted

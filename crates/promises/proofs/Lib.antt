@@ -22,6 +22,7 @@ pub mod Series
 pub mod Orders
 pub mod OrderAgain
 pub mod Demand3
+pub mod Leftovers
 pub mod RefusalMeans
 pub mod CheckMeans
 pub mod WorkedExamples

@@ -15,19 +15,17 @@ use Rattle.geometry.specs.declared.units.RecordNumber.{RecordNumber}
 use Rattle.geometry.specs.declared.units.EntryNumber.{EntryNumber}
 use Rattle.descriptor.specs.declared.numbers.Settings.{Settings}
 use Rattle.descriptor.specs.declared.numbers.DescriptorNumbers.{DescriptorNumbers}
-use Rattle.descriptor.specs.declared.validating.Validation.{Validation}
 use Rattle.descriptor.specs.FirstRecord.{numbersOf, createdOf, addressesOf}
 use Rattle.descriptor.specs.Rules.{fileRefusal}
-use Rattle.descriptor.specs.Answers.{validationOf}
-use Rattle.descriptor.proofs.Answered.{answer-numbers, told}
+use Rattle.descriptor.proofs.Answered.{answer-numbers}
 use Rattle.placing.specs.Placing.{full, newArea, afterNewArea, entryStart, nexAfter, numbersAfter, addressesAfter}
 use Rattle.storing.specs.Handed.{Handed, nwordIn}
 use Rattle.writer.specs.declared.appending.Appended.{Appended}
 use Rattle.writer.specs.Rules.{appendRefusal}
 use Rattle.writer.specs.Answers.{appendedFrom, appendIn, appendOf, fileAfter}
 use Rattle.writer.specs.Creation.{creationRefusal, createdFile}
-use Rattle.written.proofs.ReadBack.{Validates, admits, file-written, validated-after}
-use Rattle.written.proofs.AppendLeaves.{new, then, areasThen, left}
+use Rattle.written.proofs.ReadBack.{shows, admits, file-written, append-shows}
+use Rattle.written.proofs.AppendLeaves.{left}
 use Rattle.written.proofs.CreatedBack.{noAddresses, length-created, created-validated}
 use Rattle.promises.specs.Contents.{contents}
 use Rattle.promises.specs.Calls.{Call, append, AllFit, appended, run, answers, contentsAfterAll}
@@ -65,17 +63,6 @@ record Twins (o : ByteOrder) (f g : List ℕ) : Type 0 where
   numbers : numbersOf g ≡ numbersWith o (numbersOf f)
   addresses : addressesOf g (numbersOf g .nex) ≡ addressesOf f (numbersOf f .nex)
 
--- what a file that validates with numbers and addresses shows
-record Shown (file : List ℕ) (d : DescriptorNumbers) (addresses : List RecordNumber) : Type 0 where
-  admitted : fileRefusal file ≡ 0
-  numbers : numbersOf file ≡ d
-  table : addressesOf file (numbersOf file .nex) ≡ addresses
-
-shown : (file : List ℕ) (d : DescriptorNumbers) (addresses : List RecordNumber) → Validates file d addresses → Shown file d addresses
-shown file d addresses v =
-    let t = told file (validationOf file) d refl (ap (λ (x : Validation). x .numbers) v) in
-    record { admitted = t .refusal; numbers = sym (t .numbers); table = sym (t .addresses) ∙ ap (λ (x : Validation). x .addresses) v }
-
 -- the answer of an append, by its refusal and the number of the next entry
 abbrev answered : ℕ → EntryNumber → Appended
 answered n e = record { refusal = n; number = cond (eqb n 0) e (record { 0 = 0 }) }
@@ -86,17 +73,9 @@ answer-by file h z =
     let n = appendRefusal (length file) (numbersOf file) h in
     rw (answer-numbers file z) (either (eqb n 0) (λ q. rw (q, eqb-true n 0 q)) (λ q. rw q))
 
-module _ (file : List ℕ) (h : Handed) (z : fileRefusal file ≡ 0) (a : appendRefusal (length file) (numbersOf file) h ≡ 0) where
-  abbrev d : DescriptorNumbers
-  d = numbersOf file
-
-  -- what an accepted append leaves of the numbers and the addresses
-  append-shows : Shown (fileAfter file h) (numbersAfter d (entryStart d + nwordIn h)) (addressesAfter d (addressesOf file (d .nex)))
-  append-shows = let x = admits file h z a in rw (file-written file h z a) (shown (new file x) (then file x) (areasThen file x) (validated-after file z x))
-
-  -- and of the length
-  append-size : length (fileAfter file h) ≡ length file
-  append-size = let x = admits file h z a in ap length (file-written file h z a) ∙ left file x .size
+-- an accepted append leaves the length
+append-size : (file : List ℕ) (h : Handed) (z : fileRefusal file ≡ 0) → appendRefusal (length file) (numbersOf file) h ≡ 0 → length (fileAfter file h) ≡ length file
+append-size file h z a = ap length (file-written file h z a) ∙ left file (admits file h z a) .size
 
 -- ---- one append to each
 
@@ -151,8 +130,8 @@ module _ (s : Settings) (o p : ℤ) (f g : List ℕ) (size : length g ≡ length
   created-twins : Twins (record { 0 = bitsOf integer4 p }) one two
   unfolding createdOf
   created-twins =
-      let a = shown one (createdOf (settingsWith o s)) noAddresses (created-validated f (settingsWith o s) made) in
-      let b = shown two (createdOf (settingsWith p s)) noAddresses (created-validated g (settingsWith p s) other) in
+      let a = shows one (createdOf (settingsWith o s)) noAddresses (created-validated f (settingsWith o s) made) in
+      let b = shows two (createdOf (settingsWith p s)) noAddresses (created-validated g (settingsWith p s) other) in
       record {
         size = length-created g (settingsWith p s) other ∙ size ∙ sym (length-created f (settingsWith o s) made);
         first = a .admitted;

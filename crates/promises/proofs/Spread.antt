@@ -1,6 +1,6 @@
 -- That no two regions of admitted numbers share a word comes to two facts of the entries that open: each stands beside every index area, and beside every other. Assumes nothing.
 use Prim.Native.Nat.{ℕ, _-_, _≤_, _<_}
-use mathlib.Core.Path.{_≡_, refl, sym, ap, subst₂, _∙_}
+use mathlib.Core.Path.{_≡_, refl, sym, ap, subst₂}
 use mathlib.Core.Logic.{_⊎_, inl, inr}
 use mathlib.Core.List.{List}
 use native.Mathlib.Omega.{arith}
@@ -10,17 +10,14 @@ use Rattle.geometry.specs.declared.units.RecordNumber.{RecordNumber}
 use Rattle.geometry.specs.declared.units.EntryNumber.{EntryNumber}
 use Rattle.geometry.specs.Units.{positionOf, entriesBefore}
 use Rattle.descriptor.specs.declared.numbers.DescriptorNumbers.{DescriptorNumbers}
-use Rattle.descriptor.specs.declared.validating.Validation.{Validation}
 use Rattle.descriptor.specs.FirstRecord.{freeOf}
 use Rattle.descriptor.specs.Bounds.{Admitted}
-use Rattle.descriptor.specs.Answers.{validationOf}
-use Rattle.descriptor.proofs.Answered.{told}
 use Rattle.entry.specs.declared.entered.Entered.{Entered}
 use Rattle.entry.specs.Opening.{slotPositionOf, placeStored, entryRefusal, enteredOf, endOf}
 use Rattle.entry.proofs.Entering.{entry-opens, entered-numbers}
 use Rattle.descriptor.specs.Areas.{areaStartOf, areaEndOf}
 use Rattle.written.proofs.Cases.{by-order}
-use Rattle.written.proofs.ReadBack.{Validates}
+use Rattle.written.proofs.ReadBack.{Validates, shows}
 use Rattle.promises.specs.Regions.{firstRecord, area, entry, fromOf, toOf, NoneShared, SoundIn, Sound}
 use Rattle.promises.proofs.Areas.{area-behind, areas-order}
 
@@ -94,7 +91,5 @@ module _ {file : List ℕ} {d : DescriptorNumbers} {addresses : List RecordNumbe
   -- a file that validates with such numbers is sound
   pub sound-shown : Validates file d addresses → AllOpen file d addresses → Spread file d addresses → Sound file
   sound-shown shown o s =
-      let t = told file (validationOf file) d refl (ap (λ (v : Validation). v .numbers) shown) in
-      let same = ap (λ (v : Validation). v .addresses) shown in
-      let a : Admitted (length file) d addresses = rw same at (t .admitted .admitted) in
-      record { admitted = t .refusal; inside = subst₂ (SoundIn file) (t .numbers) (sym same ∙ t .addresses) (record { opens = o; apart = spread-apart a o s }) }
+      let t = shows file d addresses shown in
+      record { admitted = t .admitted; inside = subst₂ (SoundIn file) (sym (t .numbers)) (sym (t .table)) (record { opens = o; apart = spread-apart (t .bounds) o s }) }

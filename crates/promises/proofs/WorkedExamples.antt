@@ -1,6 +1,6 @@
 -- The examples that 01 works by hand, P1 to P12, and those of the requests hold of the definitions: by computing. Assumes nothing.
 use mathlib.Core.Path.{refl}
-use Rattle.image.specs.Image.{part, splice, zeros}
+use Rattle.image.specs.Image.{part, splice, zeros, allZero}
 use Rattle.words.specs.Word.{littleNumber, littleNumeral, arranged, number, numeral, bitsAt}
 use Rattle.words.specs.Range.{within, atLeast}
 use Rattle.words.specs.Code.{sameBytes}
@@ -8,7 +8,7 @@ use Rattle.geometry.specs.Computing.{computing}
 use Rattle.layout.specs.FileCode.{fileCode, orderSaid, fileCodeOf}
 use Rattle.descriptor.specs.FirstRecord.{field4, field8, numbersOf, createdOf, addressesOf, mexOf}
 use Rattle.descriptor.specs.Areas.{areaAfter, areasStart, areasEnd}
-use Rattle.descriptor.specs.Rules.{entriesFit, fileRefusal}
+use Rattle.descriptor.specs.Rules.{entriesFit, noLeftovers, fileRefusal}
 use Rattle.descriptor.specs.Answers.{validationOf}
 use Rattle.pieces.specs.EntryDescriptor.{entryCodeOf, word4, word8, sectionOf, dataOf}
 use Rattle.pieces.specs.Contents.{pieceWithin, dataWithin, sectionsWithin, apart, apartFrom, sectionsApart, dataApart}
@@ -34,8 +34,8 @@ a & b = (a, b)
 
 -- what the theorems below see through: to unfold this is to unfold all that it names
 seen : Unit {0}
-unfolding part splice zeros littleNumber littleNumeral arranged number numeral bitsAt within atLeast sameBytes
-    computing fileCode orderSaid fileCodeOf field4 field8 numbersOf createdOf addressesOf mexOf entriesFit areaAfter areasStart areasEnd fileRefusal validationOf
+unfolding part splice zeros allZero littleNumber littleNumeral arranged number numeral bitsAt within atLeast sameBytes
+    computing fileCode orderSaid fileCodeOf field4 field8 numbersOf createdOf addressesOf mexOf entriesFit areaAfter areasStart areasEnd noLeftovers fileRefusal validationOf
     entryCodeOf word4 word8 sectionOf dataOf pieceWithin dataWithin sectionsWithin apart apartFrom sectionsApart dataApart
     sectionAddresses sectionIdentifiers sectionLengths sectionsOf sameInteger sectionNamed
     placeStored slotPositionOf entryRefusal enteredOf enteredIn openedAs openOf sectionPart dataPart partIn
@@ -84,6 +84,9 @@ request-examples =
     refl & refl & refl & refl & refl & refl & refl & refl & refl & refl &
     refl & refl & refl & refl & refl & refl & refl & refl & refl & refl &
     refl & refl & refl & refl & refl & refl & refl & refl &
+    -- Q-7
+    refl & refl & refl & refl & refl & refl & refl & refl & refl & refl & refl &
+    refl & refl & refl & refl & refl & refl & refl & refl & refl & refl & refl &
     record {}
 
 -- the first entries of two files differ

@@ -1,5 +1,5 @@
 -- Cases of the requests of 02, worked by hand, as one table. A row has the number of its request, what the definitions give, and what 02 says or the rules give by hand.
-use Prim.Native.Nat.{ℕ, _*_}
+use Prim.Native.Nat.{ℕ, _*_, _-_}
 use mathlib.Core.List.{List, [], _∷_, _++_, map}
 use lib.IntN.{ℤ, pos, negℤ}
 use Rattle.image.specs.Image.{splice}
@@ -8,16 +8,17 @@ use Rattle.geometry.specs.Units.{offsetOf}
 use Rattle.geometry.specs.Growth.{growthOf, capacityOf}
 use Rattle.descriptor.specs.declared.numbers.DescriptorNumbers.{DescriptorNumbers}
 use Rattle.descriptor.specs.Rules.{fileRefusal}
-use Rattle.entry.specs.Answers.{openOf}
-use Rattle.handing.specs.Parts.{sectionWordsOf, dataWordsOf, bytesOf}
+use Rattle.descriptor.specs.Answers.{validationOf, noValidation}
+use Rattle.entry.specs.Answers.{openOf, openCase}
+use Rattle.handing.specs.Parts.{sectionWordsOf, dataWordsOf, bytesOf, noPart}
 use Rattle.storing.specs.Handed.{handedIn}
 use Rattle.writer.specs.Creation.{creationRefusal, createdFile}
-use Rattle.writer.specs.Answers.{fileAfter}
+use Rattle.writer.specs.Answers.{appendOf, fileAfter}
 use Rattle.promises.specs.Contents.{numbersIn, openedIn}
 use Rattle.promises.specs.Calls.{following}
-use Rattle.promises.specs.FileA.{settingsIn, settings, lent, A, bigA}
-use Rattle.promises.specs.ByHand.{wordsAt, big, firstRecord, entryHead, slot}
-use Rattle.promises.specs.Examples.{Row, entry, aex, at, identifierFirst, opensAt, filled, numbersRefusal}
+use Rattle.promises.specs.FileA.{settingsIn, settings, lent, append3, created, after2, A, bigA}
+use Rattle.promises.specs.ByHand.{wordsAt, little, big, firstRecord, entryHead, slot}
+use Rattle.promises.specs.Examples.{Row, entry, aex, at, identifierFirst, opensAt, filled, numbersRefusal, imageWith}
 use Rattle.promises.specs.Examples.Row.{Q}
 
 -- Q-2: with lex1 1 and gex 15 the areas of 1, 1, 2, 3 and 5 entries take a record of 46 words each
@@ -54,9 +55,23 @@ abbrev pub fullWords : ℤ → List ℕ
 fullWords order =
     fileAfter (createdFile (lent 6) (settingsIn order 20 4 2 20)) (handedIn (pos 0x01020304) (following 200 4) (negℤ (pos 2) ∷ []) (pos 1 ∷ []) (following 0 4) [])
 
+-- a file with another byte at an offset
+abbrev pub withByte : List ℕ → ℕ → ℕ → List ℕ
+withByte file at byte = splice file at (byte ∷ [])
+
 -- a file with another second byte in its code
 abbrev pub recoded : List ℕ → ℕ → List ℕ
-recoded file byte = splice file 1 (byte ∷ [])
+recoded file byte = withByte file 1 byte
+
+-- ---- Q-7
+
+-- a file in which the last byte of word w, counted from the file's start, is 1
+abbrev pub leftIn : ℕ → List ℕ → List ℕ
+leftIn w file = withByte file (4 * w - 1) 1
+
+-- a new file of one record
+abbrev pub oneRecord : ℕ → List ℕ
+oneRecord reclen = imageWith (offsetOf reclen) (settings reclen 4 2 20)
 
 -- ---- the table
 
@@ -111,4 +126,32 @@ requestExamples =
     Q 4 (creationRefusal 480 (settingsIn (negℤ (pos 1)) 20 4 2 20)) 2 ∷
     Q 4 (creationRefusal 63 (settingsIn (pos 2) 20 4 2 20)) 1 ∷
     Q 4 (creationRefusal 480 (settingsIn (pos 2) 15 4 2 20)) 2 ∷
+    -- A has its addresses in words 15 to 18: words 19 and 20 are zero, and word 21 is the first of record 2
+    Q 7 (fileRefusal A) 0 ∷
+    Q 7 (fileRefusal (leftIn 19 A)) 29 ∷
+    Q 7 (fileRefusal (leftIn 20 A)) 29 ∷
+    Q 7 (fileRefusal (leftIn 21 A)) 0 ∷
+    Q 7 (fileRefusal (leftIn 20 bigA)) 29 ∷
+    -- before it has an address, from word 15 on; with one, from word 17 on
+    Q 7 (fileRefusal (leftIn 15 (created 6))) 29 ∷
+    Q 7 (fileRefusal (leftIn 17 (after2 6))) 29 ∷
+    -- an index area broken too, the first at record 1: 11
+    Q 7 (fileRefusal (leftIn 20 (withByte A 56 1))) 11 ∷
+    -- the odd last word, and words past the sixteenth place of an address, which ends with word 46
+    Q 7 (fileRefusal (oneRecord 17)) 0 ∷
+    Q 7 (fileRefusal (leftIn 17 (oneRecord 17))) 29 ∷
+    Q 7 (fileRefusal (oneRecord 48)) 0 ∷
+    Q 7 (fileRefusal (leftIn 46 (oneRecord 48))) 29 ∷
+    Q 7 (fileRefusal (leftIn 47 (oneRecord 48))) 29 ∷
+    Q 7 (fileRefusal (leftIn 48 (oneRecord 48))) 29 ∷
+    -- the calls refuse it with zeros and an empty part, an append changes nothing
+    Q 7 (validationOf (leftIn 20 A)) (noValidation 29) ∷
+    Q 7 (openCase (openOf (leftIn 20 A) (entry 1) .answer) .refusal) 29 ∷
+    Q 7 (sectionWordsOf (leftIn 20 A) (entry 1) (pos 7)) (noPart 29) ∷
+    Q 7 (appendOf (leftIn 20 (after2 6)) append3) (record { refusal = 29; number = entry 0 }) ∷
+    Q 7 (fileAfter (leftIn 20 (after2 6)) append3) (leftIn 20 (after2 6)) ∷
+    -- creation over it is accepted, and its first record is that of a new file
+    Q 7 (creationRefusal 480 (settings 20 4 2 20)) 0 ∷
+    Q 7 (wordsAt (createdFile (leftIn 20 A) (settings 20 4 2 20)) 1 1 20) (firstRecord little 1 2 1 0 0 0) ∷
+    Q 7 (fileRefusal (createdFile (leftIn 20 A) (settings 20 4 2 20))) 0 ∷
     []

@@ -20,7 +20,7 @@ use Rattle.writer.specs.Rules.{appendRules}
 
 -- ---- the tables
 
--- every call but creation tests 1 to 11 first; validating tests no more
+-- every call but creation tests 1 to 11 and 29 first; validating tests no more
 abbrev pub validateTests : List ℕ → List Rule
 validateTests file = fileRules file (numbersOf file) (addressesOf file (numbersOf file .nex))
 

@@ -4,19 +4,20 @@ use mathlib.Core.Path.{_≡_, ap, _∙_, subst}
 use mathlib.Core.List.{List, [], _∷_}
 use native.Mathlib.Omega.{arith}
 use native.Mathlib.Numerals.{add-one, add-two, add-three}
+use lib.Dec.{eqb}
 use lib.ListN.{length, getD}
 use lib.Seq.{drop-cons}
 use lib.IntN.{ℤ}
 use mir.Syntax.{Width}
 use mir.Val.{bits, bytes, SFits}
 use mir.Facts.{fits-ofZ}
-use Rattle.image.specs.Image.{part}
+use Rattle.image.specs.Image.{part, allZero}
 use Rattle.image.specs.Writes.{Write, put, writes, Follows}
 use Rattle.image.proofs.Part.{part-add, length-part}
 use Rattle.image.proofs.Writes.{BehindOf, follow-read}
 use Rattle.words.specs.declared.byte_order.ByteOrder.{ByteOrder}
 use Rattle.words.specs.Word.{littleNumber, littleNumeral, number, numeral, bitsAt, signedAt, bitsOf, signedNumeral}
-use Rattle.words.proofs.Number.{length-numeral, number-numeral, little-append, bytes-part, number-turned}
+use Rattle.words.proofs.Number.{length-numeral, number-numeral, little-append, bytes-part, number-turned, number-zero}
 use Rattle.words.proofs.Signed.{signed-bits, range}
 
 -- the four bytes that a reader reads
@@ -57,6 +58,11 @@ value-of o w image at z f e = rw (bits-of o w image at (bitsOf w z) (fits-ofZ f 
 pub bits-alike : {o p : ByteOrder} (w : Width) (f g : List ℕ) (a b : ℕ) → o ≡ p → part f a (bytes w) ≡ part g b (bytes w) → bitsAt o w f a ≡ bitsAt p w g b
 unfolding bitsAt
 bits-alike {o} {p} w f g a b q e = rw q (ap (number p) e)
+
+-- an integer is 0 where its bytes are all zero, and nowhere else
+pub bits-zero : (o : ByteOrder) (w : Width) (image : List ℕ) (at : ℕ) → eqb (bitsAt o w image at) 0 ≡ allZero (part image at (bytes w))
+unfolding bitsAt
+bits-zero o w image at = number-zero o (part image at (bytes w))
 
 -- one of writes that follow one another is read there
 pub bits-follow : (o : ByteOrder) (w : Width) (image : List ℕ) (a : ℕ) (ws : List Write) → Follows a ws → (k at u : ℕ) → BehindOf k (put at (numeral o (bytes w) u)) ws → u < 2 ^ bits w

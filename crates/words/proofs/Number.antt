@@ -1,14 +1,15 @@
--- Laws of `number` and `numeral`, over the order and the width: lengths, the number read back from its bytes, and bytes turned by their number. Assumes nothing.
+-- Laws of `number` and `numeral`, over the order and the width: lengths, the number read back from its bytes, bytes turned by their number, and the number 0. Assumes nothing.
 use Prim.Native.Nat.{ℕ, zero, suc, _+_, _*_, _/_, _%_, _^_, _<_}
 use mathlib.Core.Path.{_≡_, refl, sym, ap, _∙_, subst}
-use mathlib.Core.Bool.{true, false}
+use mathlib.Core.Bool.{Bool, true, false, _&&_, and-assoc, and-comm, and-true}
 use mathlib.Core.List.{List, [], _∷_, _++_, reverse, reverseAux, reverse-reverse, reverse-append}
 use native.Mathlib.Omega.{arith}
 use native.Mathlib.Nat.{mul-assoc, pow-succ', pow-suc}
+use borrow.Author.Tests.{eqb-true, eqb-false, eq-eqb, ne-eqb}
 use lib.Dec.{eqb}
 use lib.ListN.{length, getD, take, drop, length-reverse}
 use Rattle.outcome.proofs.Either.{either}
-use Rattle.image.specs.Image.{part}
+use Rattle.image.specs.Image.{part, allZero}
 use Rattle.words.specs.declared.byte_order.ByteOrder.{ByteOrder}
 use Rattle.words.specs.Word.{littleNumber, littleNumeral, arranged, number, numeral}
 
@@ -144,3 +145,36 @@ number-little o n x e h = rw e (little-back n x h)
 pub number-big : (o : ByteOrder) (bs : List ℕ) → eqb (o .0) 0 ≡ false → number o bs ≡ littleNumber (reverse bs)
 unfolding number arranged
 number-big o bs e = rw e
+
+-- ---- the number 0
+
+sum-zero : (b n : ℕ) → eqb (b + 256 * n) 0 ≡ eqb b 0 && eqb n 0
+sum-zero b n =
+    either (eqb b 0)
+    (λ p.
+    either (eqb n 0)
+    (λ q. rw (p, q) (eq-eqb (b + 256 * n) 0 (omega (arith, eqb-true b 0 p, eqb-true n 0 q))))
+    (λ q. rw (p, q) (ne-eqb (b + 256 * n) 0 (λ e. eqb-false n 0 q (omega arith)))))
+    (λ p. rw p (ne-eqb (b + 256 * n) 0 (λ e. eqb-false b 0 p (omega arith))))
+
+little-zero : (bs : List ℕ) → eqb (littleNumber bs) 0 ≡ allZero bs
+unfolding littleNumber allZero
+little-zero [] = refl
+little-zero (b ∷ bs) = sum-zero b (littleNumber bs) ∙ ap (λ (t : Bool). eqb b 0 && t) (little-zero bs)
+
+zero-onto : (xs ys : List ℕ) → allZero (reverseAux xs ys) ≡ allZero xs && allZero ys
+unfolding allZero
+zero-onto [] ys = refl
+zero-onto (x ∷ xs) ys =
+    zero-onto xs (x ∷ ys)
+    ∙ sym (and-assoc (allZero xs) (eqb x 0) (allZero ys))
+    ∙ ap (λ (t : Bool). t && allZero ys) (and-comm (allZero xs) (eqb x 0))
+
+zero-arranged : (o : ByteOrder) (bs : List ℕ) → allZero (arranged o bs) ≡ allZero bs
+unfolding arranged allZero
+zero-arranged o bs = either (eqb (o .0) 0) (λ e. rw e) (λ e. rw e (zero-onto bs [] ∙ and-true (allZero bs)))
+
+-- bytes stand for 0 where they are all zero, and nowhere else
+pub number-zero : (o : ByteOrder) (bs : List ℕ) → eqb (number o bs) 0 ≡ allZero bs
+unfolding number
+number-zero o bs = little-zero (arranged o bs) ∙ zero-arranged o bs

@@ -14,8 +14,8 @@ pub struct Appended {
 }
 
 // Appends an entry: its version, the application's index words, its sections by identifiers, lengths
-// and bytes one after another, and its data. Refuses by the first rule of 1 to 11 or 21 to 24 that is
-// broken, and then changes no byte.
+// and bytes one after another, and its data. Refuses by the first rule of 1 to 11, 29 and 21 to 24
+// that is broken, and then changes no byte.
 pub fn append(
     file: &mut [u8],
     version: i32,

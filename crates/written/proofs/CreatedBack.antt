@@ -1,14 +1,17 @@
 -- Validating a file that `create` made gives the numbers of a new file, and no addresses. Assumes nothing.
-use Prim.Native.Nat.{ℕ, _+_, _^_, _≤_, _<_}
+use Prim.Native.Nat.{ℕ, _+_, _*_, _-_, _^_, _≤_, _<_}
 use mathlib.Core.Path.{_≡_, refl, sym, ap, _∙_, subst}
+use mathlib.Core.Bool.{true}
 use mathlib.Core.List.{List, _++_}
 use native.Mathlib.Omega.{arith}
 use borrow.Author.Tests.{leb-true, le-leb}
 use lib.ListN.{length, replicate}
 use mir.Syntax.{Width, w32, w64}
 use mir.Val.{bits, bytes}
-use Rattle.image.specs.Image.{part}
+use Rattle.image.specs.Image.{part, zeros}
 use Rattle.image.specs.Writes.{Write, put, writes, Follows}
+use Rattle.image.proofs.Splice.{length-zeros}
+use Rattle.image.proofs.Zeros.{zeros-zero}
 use Rattle.image.proofs.Writes.{length-writes, writes-append, BehindOf, follow-read}
 use Rattle.words.specs.Word.{numeral, bitsAt}
 use Rattle.words.proofs.Number.{length-numeral}
@@ -22,7 +25,7 @@ use Rattle.layout.specs.FileCode.{fileCode, orderSaid, fileCodeOf, byteOrderOf}
 use Rattle.layout.proofs.FileCodes.{length-code, order-coded}
 use Rattle.descriptor.specs.FirstRecord.{field4, field8, numbersOf, createdOf, addressesOf, freeOf}
 use Rattle.descriptor.specs.Areas.{areaAfter, areasStart, areasEnd}
-use Rattle.descriptor.specs.Rules.{settingRules, settingRefusal, creationRules, entriesFit}
+use Rattle.descriptor.specs.Rules.{settingRules, settingRefusal, creationRules, entriesFit, noLeftovers}
 use Rattle.descriptor.specs.Bounds.{Narrow, Admitted}
 use Rattle.descriptor.proofs.Refusals.{refusal-none, all-hold}
 use Rattle.descriptor.proofs.Passed.{settled, lent}
@@ -127,6 +130,17 @@ module _ (file : List ℕ) (d : DescriptorNumbers) where
           field-first w32 11 (firstRecordOffsetOf gexWord) (d .gex) refl (t .gex) (omega arith),
         )
 
+  -- behind the growth it is zero
+  clear-first : d .nex ≡ 0 → 16 ≤ d .reclen → 4 * d .reclen ≤ length file → noLeftovers (firstWritten file d) d ≡ true
+  unfolding noLeftovers
+  clear-first none low long =
+      let rest = 4 * (d .reclen - 14) in
+      let count : 4 * d .reclen - 56 ≡ length (zeros rest) = omega (arith, length-zeros rest) in
+      let zero : part (firstWritten file d) 56 (length (zeros rest)) ≡ zeros rest =
+          ap (λ (f : List ℕ). part f 56 (length (zeros rest))) first-one
+          ∙ follow-read file 0 (firstWrites d) (first-follows d) 12 56 (zeros rest) refl (omega (arith, length-zeros rest)) in
+      rw (none, count, zero) (zeros-zero rest)
+
 -- ---- validating a file that was created
 
 module _ (file : List ℕ) (s : Settings) (e : creationRefusal (length file) s ≡ 0) where
@@ -149,4 +163,5 @@ module _ (file : List ℕ) (s : Settings) (e : creationRefusal (length file) s �
       (validated (firstWritten file (createdOf s)) (createdOf s) noAddresses (numbers-first file (createdOf s) (p .0) (order-known (createdOf s) (apt (length file) (createdOf s) (p .1))) (created-fits (length file) s e .0) (omega arith) (omega arith)) refl
       (omega (arith, same, p .0))
       (apt (length file) (createdOf s) (p .1))
-      (rw same (created-admitted (length file) s e)))
+      (rw same (created-admitted (length file) s e))
+      (clear-first file (createdOf s) refl (omega (arith, created-admitted (length file) s e .settled .reclen-low)) (omega (arith, created-admitted (length file) s e .lent .first))))

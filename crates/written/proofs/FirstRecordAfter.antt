@@ -1,5 +1,5 @@
 -- What an accepted append leaves of the first record, field by field: the numbers and addresses after it. Assumes nothing.
-use Prim.Native.Nat.{ℕ, _+_, _*_, _^_, _≤_, _<_}
+use Prim.Native.Nat.{ℕ, _+_, _*_, _-_, _^_, _≤_, _<_}
 use mathlib.Core.Path.{_≡_, refl, sym, ap, ap₂, _∙_}
 use mathlib.Core.Logic.{inl, inr}
 use mathlib.Core.Bool.{true, false≢true}
@@ -8,21 +8,24 @@ use native.Mathlib.Omega.{arith}
 use lib.ListN.{length, set, take, drop}
 use mir.Syntax.{Width, w32, w64}
 use mir.Val.{bits, bytes}
-use Rattle.image.specs.Image.{part}
+use Rattle.image.specs.Image.{part, allZero}
 use Rattle.image.specs.Writes.{Write, put, writes, Follows, Apart}
+use Rattle.image.proofs.Part.{length-part, part-part}
 use Rattle.image.proofs.Writes.{writes-read, BehindOf}
+use Rattle.image.proofs.Zeros.{zeros-zero, zero-part}
 use Rattle.words.specs.declared.byte_order.ByteOrder.{ByteOrder}
 use Rattle.words.specs.Word.{numeral, bitsAt}
 use Rattle.words.proofs.Table.{places-same, places-next}
 use Rattle.words.proofs.Number.{length-numeral}
 use Rattle.words.proofs.Access.{bits-of, bits-follow, bits-alike}
 use Rattle.geometry.specs.declared.units.RecordNumber.{RecordNumber}
-use Rattle.geometry.specs.Units.{firstRecordOffsetOf}
-use Rattle.layout.specs.FirstRecordWords.{reclenWord, kindWord, vindWord, lindWord, flagsWord, xnextWord, nextrecWord, nextwordWord, lex1Word, nexWord, gexWord, aexWord}
+use Rattle.geometry.specs.Units.{offsetOf, firstRecordOffsetOf}
+use Rattle.layout.specs.FirstRecordWords.{reclenWord, kindWord, vindWord, lindWord, flagsWord, xnextWord, nextrecWord, nextwordWord, lex1Word, nexWord, gexWord, aexWord, afterAex}
 use Rattle.geometry.specs.declared.units.WordNumber.{WordNumber}
 use Rattle.descriptor.specs.declared.numbers.DescriptorNumbers.{DescriptorNumbers}
 use Rattle.layout.specs.FileCode.{orderSaid, fileCodeOf, byteOrderOf}
 use Rattle.descriptor.specs.FirstRecord.{field4, field8, numbersOf, aexAt, addressesOf}
+use Rattle.descriptor.specs.Rules.{noLeftovers}
 use Rattle.storing.specs.Handed.{Handed}
 use Rattle.placing.specs.Placing.{full, newArea, nexAfter, numbersAfter, addressesAfter}
 use Rattle.fields.specs.FieldWrites.{countWrites}
@@ -65,6 +68,21 @@ module _ (file : List ℕ) {d : DescriptorNumbers} {addresses : List RecordNumbe
   unfolding field4
   word-kept w l b c =
       bits-alike w32 (new file x) file (firstRecordOffsetOf w) (firstRecordOffsetOf w) order-kept (first-keep (firstRecordOffsetOf w) 4 (omega (arith, words)) b (λ q. (c q, inl (omega arith))))
+
+  -- the words after the addresses: zero before, and zero after those that are then in use
+  pub clear-kept : noLeftovers file d ≡ true → noLeftovers (new file x) (then file x) ≡ true
+  unfolding noLeftovers
+  clear-kept e =
+      let end = offsetOf (d .reclen) in
+      let was = firstRecordOffsetOf (afterAex (d .nex)) in
+      let start = firstRecordOffsetOf (afterAex (then file x .nex)) in
+      let l = left file x in
+      let room = l .admitted .settled .nex-room in
+      let kept : part (new file x) start (end - start) ≡ part file start (end - start) =
+          first-keep start (end - start) (omega (arith, room, l .reclen)) (inr (omega arith)) (λ q. (inr (omega arith), inr (omega (arith, l .nex, nex-full d q)))) in
+      let zero = zero-part (part file was (end - was)) (start - was) (end - start) e (rw (length-part file was (end - was) (omega (arith, x .admitted .lent .first, room, l .extensions, l .nex, l .reclen))) (omega (arith, room, l .extensions, l .nex, l .reclen))) in
+      let inner = part-part file was (end - was) (start - was) (end - start) start (omega (arith, room, l .extensions, l .nex, l .reclen)) (omega (arith, l .extensions, l .nex)) in
+      ap allZero (kept ∙ sym inner ∙ zero) ∙ zeros-zero (end - start)
 
   -- ---- what is written, for numbers in the order that the file's code says
 

@@ -11,7 +11,8 @@ use Rattle.layout.specs.FileCode.{byteOrderOf}
 use Rattle.descriptor.specs.declared.numbers.DescriptorNumbers.{DescriptorNumbers}
 use Rattle.descriptor.specs.FirstRecord.{numbersOf, addressesOf}
 use Rattle.descriptor.specs.Bounds.{Settled, Lent}
-use Rattle.descriptor.specs.Rules.{settingRefusal, fillingRefusal, fileRefusal}
+use Rattle.descriptor.specs.Rules.{settingRefusal, fillingRefusal, noLeftovers, fileRefusal}
+use Rattle.descriptor.proofs.Tests.{holds, broken}
 use Rattle.descriptor.proofs.Passed.{settled, lent}
 use Rattle.descriptor.proofs.Answered.{file-rest, file-order, answer-numbers, answer-refused}
 use borrow.Author.Needs.{needs}
@@ -29,7 +30,9 @@ long : (c : tie.Else1) → leb 64 (length (c .before .before .args .file .now)) 
 long c = le-leb 64 (length (c .before .before .args .file .now)) (c .if1 .left)
 
 rest : (c : tie.After-numbers-of) → let file = file-of c in
-    fileRefusal file ≡ cond (eqb (settingRefusal (length file) (numbersOf file)) 0) (fillingRefusal (length file) (numbersOf file) (addressesOf file (numbersOf file .nex))) (settingRefusal (length file) (numbersOf file))
+    let s = settingRefusal (length file) (numbersOf file) in
+    let f = fillingRefusal (length file) (numbersOf file) (addressesOf file (numbersOf file .nex)) in
+    fileRefusal file ≡ cond (eqb s 0) (cond (eqb f 0) (cond (noLeftovers file (numbersOf file)) 0 29) f) s
 rest c = file-rest (file-of c) (long (c .before))
 
 setting : (c : tie.After-setting-refusal) → let file = file-of (c .before) in c .setting-refusal .result ≡ settingRefusal (length file) (numbersOf file)
@@ -45,10 +48,16 @@ shown c = (settled _ _ (none c), lent _ _ (none c) (read c .before .if1 .left))
 order : (c : tie.Else2) → read c .numbers-of .result .order ≡ byteOrderOf (file-of (read c))
 order c = ap (λ (d : DescriptorNumbers). d .order) (read c .numbers-of .ensures) ∙ file-order (file-of (read c))
 
-last : (c : tie.After-filling-refusal) → fileRefusal (file-of (read (c .before .before))) ≡ c .filling-refusal .result
+-- behind the settings the filling counts, and then the leftovers
+last : (c : tie.After-filling-refusal) → let file = file-of (read (c .before .before)) in
+    fileRefusal file ≡ cond (eqb (c .filling-refusal .result) 0) (cond (noLeftovers file (numbersOf file)) 0 29) (c .filling-refusal .result)
 last c =
     let e = c .before .before in
-    rest (read e) ∙ rw (none e) (sym (rw (c .before .addresses-of .ensures, read e .numbers-of .ensures) at (c .filling-refusal .ensures)))
+    let filling = rw (c .before .addresses-of .ensures, read e .numbers-of .ensures) at (c .filling-refusal .ensures) in
+    rest (read e) ∙ rw (none e, filling)
+
+clear : (c : tie.After-no-leftovers) → let e = c .before .before .before .before in c .no-leftovers .result ≡ noLeftovers (file-of (read e)) (numbersOf (file-of (read e)))
+clear c = rw (read (c .before .before .before .before) .numbers-of .ensures) at (c .no-leftovers .ensures)
 
 pub validate-spec : {M : Type 1} → statement M
 unfolding fileRefusal
@@ -67,5 +76,15 @@ validate-spec =
     (λ c κs. let (d, l) = shown c in let e = read c .numbers-of .ensures in (order c, rw e (omega arith), rw e (omega arith)))
     (λ c κs. rw (read (c .before) .numbers-of .ensures) (shown (c .before)))
     (λ c κs. search needs)
-    (λ c. let f = c .before .before in c .refused3 .ensures ∙ sym (answer-refused _ _ (last f) (ne-eqb (f .filling-refusal .result) 0 (c .before .if3 .taken))))
-    (λ c. let f = c .before in rw (f .before .addresses-of .ensures, read (f .before .before) .numbers-of .ensures) (sym (answer-numbers _ (last f ∙ c .if3 .left)))))
+    (λ c.
+    let f = c .before .before in
+    let other = ne-eqb (f .filling-refusal .result) 0 (c .before .if3 .taken) in
+    c .refused3 .ensures ∙ sym (answer-refused _ _ (last f ∙ rw other) other))
+    (λ c κs. let (d, l) = shown (c .before .before .before) in rw (read (c .before .before .before) .numbers-of .ensures) (d, l .first))
+    (λ c κs. search needs)
+    (λ c. let n = c .before .before in c .refused4 .ensures ∙ sym (answer-refused _ 29 (last (n .before .before) ∙ rw (n .before .if3 .left, broken (clear n) (c .before .if4 .taken))) refl))
+    (λ c.
+    let n = c .before in
+    let f = n .before .before in
+    rw (f .before .addresses-of .ensures, read (f .before .before) .numbers-of .ensures)
+    (sym (answer-numbers _ (last f ∙ rw (n .before .if3 .left, holds (clear n) (c .if4 .left)))))))
