@@ -43,7 +43,8 @@ words-of file at n i h l e =
 
 -- and bytes are all zero where each word of them is
 of-words : (file : List ℕ) (at n : ℕ) → ((i : ℕ) → i < n → allZero (part file (at + 4 * i) 4) ≡ true) → allZero (part file at (4 * n)) ≡ true
-of-words file at zero f = zeros-zero 0
+unfolding part allZero
+of-words file at zero f = refl
 of-words file at (suc n) f =
     let four : 4 * suc n ≡ 4 * n + 4 = omega arith in
     rw four

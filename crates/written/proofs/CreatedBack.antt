@@ -1,6 +1,6 @@
 -- Validating a file that `create` made gives the numbers of a new file, and no addresses. Assumes nothing.
 use Prim.Native.Nat.{ℕ, _+_, _*_, _-_, _^_, _≤_, _<_}
-use mathlib.Core.Path.{_≡_, refl, sym, ap, _∙_, subst}
+use mathlib.Core.Path.{_≡_, refl, sym, ap, ap₂, _∙_, subst}
 use mathlib.Core.Bool.{true}
 use mathlib.Core.List.{List, _++_}
 use native.Mathlib.Omega.{arith}
@@ -8,7 +8,7 @@ use borrow.Author.Tests.{leb-true, le-leb}
 use lib.ListN.{length, replicate}
 use mir.Syntax.{Width, w32, w64}
 use mir.Val.{bits, bytes}
-use Rattle.image.specs.Image.{part, zeros}
+use Rattle.image.specs.Image.{part, zeros, allZero}
 use Rattle.image.specs.Writes.{Write, put, writes, Follows}
 use Rattle.image.proofs.Splice.{length-zeros}
 use Rattle.image.proofs.Zeros.{zeros-zero}
@@ -20,7 +20,7 @@ use Rattle.geometry.specs.declared.units.RecordNumber.{RecordNumber}
 use Rattle.geometry.specs.Units.{positionOf, firstRecordOffsetOf}
 use Rattle.descriptor.specs.declared.numbers.Settings.{Settings}
 use Rattle.descriptor.specs.declared.numbers.DescriptorNumbers.{DescriptorNumbers}
-use Rattle.layout.specs.FirstRecordWords.{reclenWord, kindWord, vindWord, lindWord, flagsWord, xnextWord, nextrecWord, nextwordWord, lex1Word, nexWord, gexWord}
+use Rattle.layout.specs.FirstRecordWords.{reclenWord, kindWord, vindWord, lindWord, flagsWord, xnextWord, nextrecWord, nextwordWord, lex1Word, nexWord, gexWord, afterAex}
 use Rattle.layout.specs.FileCode.{fileCode, orderSaid, fileCodeOf, byteOrderOf}
 use Rattle.layout.proofs.FileCodes.{length-code, order-coded}
 use Rattle.descriptor.specs.FirstRecord.{field4, field8, numbersOf, createdOf, addressesOf, freeOf}
@@ -135,11 +135,14 @@ module _ (file : List ℕ) (d : DescriptorNumbers) where
   unfolding noLeftovers
   clear-first none low long =
       let rest = 4 * (d .reclen - 14) in
-      let count : 4 * d .reclen - 56 ≡ length (zeros rest) = omega (arith, length-zeros rest) in
-      let zero : part (firstWritten file d) 56 (length (zeros rest)) ≡ zeros rest =
-          ap (λ (f : List ℕ). part f 56 (length (zeros rest))) first-one
-          ∙ follow-read file 0 (firstWrites d) (first-follows d) 12 56 (zeros rest) refl (omega (arith, length-zeros rest)) in
-      rw (none, count, zero) (zeros-zero rest)
+      let at : firstRecordOffsetOf (afterAex (d .nex)) ≡ 56 = omega (arith, none) in
+      let size : 4 * d .reclen - firstRecordOffsetOf (afterAex (d .nex)) ≡ length (zeros rest) = omega (arith, at, length-zeros rest) in
+      let zero : part (writes file (firstWrites d)) 56 (length (zeros rest)) ≡ zeros rest =
+      follow-read file 0 (firstWrites d) (first-follows d) 12 56 (zeros rest) refl (omega (arith, length-zeros rest)) in
+      ap₂ (λ (a n : ℕ). allZero (part (firstWritten file d) a n)) at size
+      ∙ ap (λ (f : List ℕ). allZero (part f 56 (length (zeros rest)))) first-one
+      ∙ ap allZero zero
+      ∙ zeros-zero rest
 
 -- ---- validating a file that was created
 

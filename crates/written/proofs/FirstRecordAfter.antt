@@ -71,7 +71,7 @@ module _ (file : List ℕ) {d : DescriptorNumbers} {addresses : List RecordNumbe
 
   -- the words after the addresses: zero before, and zero after those that are then in use
   pub clear-kept : noLeftovers file d ≡ true → noLeftovers (new file x) (then file x) ≡ true
-  unfolding noLeftovers
+  unfolding noLeftovers numbersAfter
   clear-kept e =
       let end = offsetOf (d .reclen) in
       let was = firstRecordOffsetOf (afterAex (d .nex)) in
@@ -79,7 +79,7 @@ module _ (file : List ℕ) {d : DescriptorNumbers} {addresses : List RecordNumbe
       let l = left file x in
       let room = l .admitted .settled .nex-room in
       let kept : part (new file x) start (end - start) ≡ part file start (end - start) =
-          first-keep start (end - start) (omega (arith, room, l .reclen)) (inr (omega arith)) (λ q. (inr (omega arith), inr (omega (arith, l .nex, nex-full d q)))) in
+      first-keep start (end - start) (omega (arith, room, l .reclen)) (inr (omega arith)) (λ q. (inr (omega arith), inr (omega (arith, l .nex, nex-full d q)))) in
       let zero = zero-part (part file was (end - was)) (start - was) (end - start) e (rw (length-part file was (end - was) (omega (arith, x .admitted .lent .first, room, l .extensions, l .nex, l .reclen))) (omega (arith, room, l .extensions, l .nex, l .reclen))) in
       let inner = part-part file was (end - was) (start - was) (end - start) start (omega (arith, room, l .extensions, l .nex, l .reclen)) (omega (arith, l .extensions, l .nex)) in
       ap allZero (kept ∙ sym inner ∙ zero) ∙ zeros-zero (end - start)
