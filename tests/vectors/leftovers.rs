@@ -34,14 +34,14 @@ fn in_file_a(order: Order) {
     every_call(&name("word 20 1, number 0"), with4(a(), 20, 1), 480, 0);
 }
 
-/// New files of the least and the greatest reclen and of odd ones, and files with sixteen extensions.
+/// New files of two records, of the least and the greatest reclen and of odd ones, and files with sixteen extensions.
 fn in_other_records(order: Order) {
     let chosen = |reclen| in_order(order, settings(reclen, 3, 1, 10));
     let new: [(i32, &[usize]); 4] =
         [(16, &[15, 16]), (17, &[15, 17]), (47, &[46, 47]), (4096, &[15, 46, 47, 4095, 4096])];
     for (reclen, words) in new {
         for &word in words {
-            let file = with4(created(4 * reclen as usize, 0, chosen(reclen)), word, 1);
+            let file = with4(created(8 * reclen as usize, 0, chosen(reclen)), word, 1);
             validate(&named(order, &format!("reclen {reclen}, word {word} 1")), &file);
         }
     }
