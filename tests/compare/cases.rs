@@ -359,8 +359,8 @@ fn turned_over(random: &mut Random, script: &mut Script) {
 fn leftovers(random: &mut Random, script: &mut Script) {
     let (reclen, lind) = (16 + script.turn, random.from(3, 6) as i32);
     let settings = Settings { reclen: reclen as i32, lind, lex1: 1, gex: 10, ..files::settings(random, script.order) };
-    let most = most_extensions(&settings);
-    let extensions = random.from(0, if reclen < 200 || random.once_in(20) { most } else { 2 });
+    let most = if reclen < 200 || random.once_in(20) { most_extensions(&settings) } else { 2 };
+    let extensions = random.from(0, most);
     let made = make_full(&settings, extensions, 2);
     script.lend(&made.bytes, made.bytes.len());
     script.call(Call::Validate);

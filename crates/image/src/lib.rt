@@ -49,10 +49,10 @@ pub fn all_zero(bytes: &[u8]) -> bool
     ensures { λ r. ⌜ Answers (allZero (now (bytes .entry))) r ⌝ }
 {
     let mut greatest = 0;
-    let mut done = 0;
-    while done < bytes.len() {
-        greatest = greater(greatest, bytes[done]);
-        done += 1;
+    let mut passed = 0;
+    while passed < bytes.len() {
+        greatest = greater(greatest, bytes[passed]);
+        passed += 1;
     }
     greatest == 0
 }

@@ -12,10 +12,10 @@ use Rattle.image.proofs.all_zero.Statement.{statement}
 use Rattle.image.proofs.all_zero.Tie as tie
 
 abbrev Inv-loop : tie.InvT-loop
-Inv-loop bytes greatest₀ done₀ greatest done = (done ≤ length bytes) × (eqb greatest 0 ≡ allZero (take done bytes))
+Inv-loop bytes greatest₀ passed₀ greatest passed = (passed ≤ length bytes) × (eqb greatest 0 ≡ allZero (take passed bytes))
 
 abbrev μ-loop : tie.MeasureT-loop
-μ-loop bytes greatest₀ done₀ greatest done = length bytes - done
+μ-loop bytes greatest₀ passed₀ greatest passed = length bytes - passed
 
 pub all-zero-spec : {M : Type 1} → statement M
 unfolding allZero
@@ -29,5 +29,5 @@ all-zero-spec =
     (λ c κs. search needs)
     (λ c. omega arith)
     (λ c. omega arith)
-    (λ c. let l = c .before .before .before .loop in (omega arith, ap (λ (g : ℕ). eqb g 0) (c .greater .ensures) ∙ greatest-next _ (l .done) (l .greatest) (omega arith) (l .inv .1)))
-    (λ c. let l = c .before .loop in l .inv .1 ∙ ap allZero (take-all (l .done) _ (omega arith))))
+    (λ c. let l = c .before .before .before .loop in (omega arith, ap (λ (g : ℕ). eqb g 0) (c .greater .ensures) ∙ greatest-next _ (l .passed) (l .greatest) (omega arith) (l .inv .1)))
+    (λ c. let l = c .before .loop in l .inv .1 ∙ ap allZero (take-all (l .passed) _ (omega arith))))
