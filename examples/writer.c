@@ -92,8 +92,8 @@ static void make_a(int32_t order) {
     append(additions, 3);
 }
 
-/* a.classic, file A; d.classic, the same with its last record lost; e.classic, file A in the big order; f.classic, file A
-   with an old address left in word 19, behind its two. */
+/* a.classic, file A; d.classic, the same with its last record lost; f.classic, the same with an old address left in word
+   19, behind the two in use; e.classic, file A in the big order. */
 static void write_files_a(const char *folder) {
     make_a(CLASSIC_LITTLE);
     save(folder, "a.classic", bytes);

@@ -355,7 +355,8 @@ fn turned_over(random: &mut Random, script: &mut Script) {
 }
 
 /// A file of each reclen in turn, 16 to 4,096, with one bit set after the addresses in use: in the first word there, in
-/// the last, about the sixteenth place of an address, and anywhere; then with an index area broken too, and created anew.
+/// the last, about the sixteenth place of an address, and anywhere. Then an index area is broken too, and the file
+/// created anew.
 fn leftovers(random: &mut Random, script: &mut Script) {
     let (reclen, lind) = (16 + script.turn, random.from(3, 6) as i32);
     let settings = Settings { reclen: reclen as i32, lind, lex1: 1, gex: 10, ..files::settings(random, script.order) };

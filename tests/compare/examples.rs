@@ -1,6 +1,6 @@
 //! The examples that document 01 works by hand, with the capacities of Q-2 in document 02 and in both orders of Q-4, and
-//! those of Q-7, as the first cases: the reference must give the numbers and bytes written here, and the library is compared with the
-//! reference.
+//! those of Q-7, as the first cases: the reference must give the numbers and bytes written here, and the library is
+//! compared with the reference.
 
 use crate::files::make_full;
 use crate::random::Random;
@@ -153,8 +153,9 @@ fn limits(script: &mut Script) {
     expect(script, "P12", Call::Open(1), &[0, 3, 1, 0, 0, 11, u64::MAX, 0]);
 }
 
-/// file A after (2), whose nex is 1, with a byte of words 17 to 20 not zero, alone and with its index area at record 1;
-/// it takes no entry and stays; and A created over it. The file with reclen 21 has an odd last word.
+/// file A after (2), whose nex is 1, with a byte of each word from 17 on that is not zero. It takes no entry and
+/// stays; with its index area at record 1 too it gives 11; and a creation over it is accepted. With reclen 21 the last
+/// word is odd.
 fn leftovers(script: &mut Script) {
     let [first, second, third] = additions();
     for reclen in [20, 21] {

@@ -1,6 +1,6 @@
 -- Laws of `allZero`: what is all zero is a run of zeros, and so is each part of it; and a turn of a loop that looks. Assumes nothing.
 use mathlib.Core.Path.{_≡_, refl, sym, ap, ap₂, _∙_}
-use mathlib.Core.Bool.{Bool, true, _&&_, and-eq-true-iff, and-assoc}
+use mathlib.Core.Bool.{true, _&&_, and-eq-true-iff, and-assoc, and-true}
 use Prim.Native.Nat.{ℕ, zero, suc, _+_, _≤_, _<_, max}
 use native.Mathlib.Omega.{arith}
 use native.Mathlib.Numerals.{add-one}
@@ -44,21 +44,22 @@ unfolding allZero
 zero-append [] ys = refl
 zero-append (x ∷ xs) ys = rw (zero-append xs ys) (sym (and-assoc (eqb x 0) (allZero xs) (allZero ys)))
 
-greater-zero : (a b : ℕ) → eqb (max a b) 0 ≡ eqb a 0 && allZero (b ∷ [])
-unfolding allZero
-greater-zero a b =
+-- a number is 0 where two others are, and nowhere else: so says the test
+pub both-zero : (a b c : ℕ) → (a ≡ 0 → b ≡ 0 → c ≡ 0) → (c ≡ 0 → (a ≡ 0) × (b ≡ 0)) → eqb c 0 ≡ eqb a 0 && eqb b 0
+both-zero a b c f g =
     either (eqb a 0)
     (λ p.
     either (eqb b 0)
-    (λ q. rw (p, q) (eq-eqb (max a b) 0 (omega (arith, eqb-true a 0 p, eqb-true b 0 q))))
-    (λ q. rw (p, q) (ne-eqb (max a b) 0 (λ e. eqb-false b 0 q (omega arith)))))
-    (λ p. rw p (ne-eqb (max a b) 0 (λ e. eqb-false a 0 p (omega arith))))
+    (λ q. rw (p, q) (eq-eqb c 0 (f (eqb-true a 0 p) (eqb-true b 0 q))))
+    (λ q. rw (p, q) (ne-eqb c 0 (λ e. eqb-false b 0 q (g e .1)))))
+    (λ p. rw p (ne-eqb c 0 (λ e. eqb-false a 0 p (g e .0))))
 
 -- a turn of a loop that keeps the greatest byte
 pub greatest-next : (bytes : List ℕ) (j greatest : ℕ) → j < length bytes → eqb greatest 0 ≡ allZero (take j bytes)
     → eqb (max greatest (getD bytes j 0)) 0 ≡ allZero (take (j + 1) bytes)
+unfolding allZero
 greatest-next bytes j greatest h e =
     let b = getD bytes j 0 in
-    greater-zero greatest b
-    ∙ ap (λ (t : Bool). t && allZero (b ∷ [])) e
+    both-zero greatest b (max greatest b) (λ p q. omega arith) (λ z. (omega arith, omega arith))
+    ∙ ap₂ _&&_ e (sym (and-true (eqb b 0)))
     ∙ sym (rw (add-one j, take-suc bytes j 0 h) (zero-append (take j bytes) (b ∷ [])))

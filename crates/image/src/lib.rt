@@ -43,8 +43,8 @@ fn greater(a: u8, b: u8) -> u8
     a
 }
 
-// Whether every byte is zero. The loop looks at all of them and keeps the greatest, which the compiler
-// turns into wide compares.
+// Whether every byte is zero. The loop keeps the greatest byte and never leaves early, so that the
+// compiler takes many bytes a turn.
 pub fn all_zero(bytes: &[u8]) -> bool
     ensures { λ r. ⌜ Answers (allZero (now (bytes .entry))) r ⌝ }
 {

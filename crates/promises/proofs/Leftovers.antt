@@ -3,7 +3,7 @@
 use Prim.Native.Nat.{ℕ, zero, suc, _+_, _*_, _-_, _≤_, _<_}
 use mathlib.Core.Path.{_≡_, refl, sym, ap, ap₂, subst, _∙_}
 use mathlib.Core.Bool.{true, _&&_}
-use mathlib.Core.List.{List}
+use mathlib.Core.List.{List, []}
 use native.Mathlib.Omega.{arith}
 use borrow.Author.Tests.{eqb-true, eq-eqb}
 use lib.Dec.{eqb}
@@ -104,6 +104,10 @@ append-rest file h r =
     let z = accepted-file file h r in
     admitted-rest (fileAfter file h) (append-shows file h z (sym (answer-there file h z) ∙ r) .admitted)
 
--- nor after any series of calls from where demand 3 starts
+-- nor has one from which demand 3 starts, after any series of calls
 pub run-rest : (calls : List Call) → AllFit calls → (file : List ℕ) → Start file → RestZero (run calls file) (numbersOf (run calls file))
 run-rest calls g file start = admitted-rest (run calls file) (check-passed (run calls file) (demand-3 calls g file start .ordered) .0)
+
+-- or after none
+pub start-rest : (file : List ℕ) → Start file → RestZero file (numbersOf file)
+start-rest file start = run-rest [] tt file start

@@ -5,11 +5,11 @@ use mathlib.Core.Bool.{Bool, true, false, _&&_, and-assoc, and-comm, and-true}
 use mathlib.Core.List.{List, [], _∷_, _++_, reverse, reverseAux, reverse-reverse, reverse-append}
 use native.Mathlib.Omega.{arith}
 use native.Mathlib.Nat.{mul-assoc, pow-succ', pow-suc}
-use borrow.Author.Tests.{eqb-true, eqb-false, eq-eqb, ne-eqb}
 use lib.Dec.{eqb}
 use lib.ListN.{length, getD, take, drop, length-reverse}
 use Rattle.outcome.proofs.Either.{either}
 use Rattle.image.specs.Image.{part, allZero}
+use Rattle.image.proofs.Zeros.{both-zero}
 use Rattle.words.specs.declared.byte_order.ByteOrder.{ByteOrder}
 use Rattle.words.specs.Word.{littleNumber, littleNumeral, arranged, number, numeral}
 
@@ -148,19 +148,12 @@ number-big o bs e = rw e
 
 -- ---- the number 0
 
-sum-zero : (b n : ℕ) → eqb (b + 256 * n) 0 ≡ eqb b 0 && eqb n 0
-sum-zero b n =
-    either (eqb b 0)
-    (λ p.
-    either (eqb n 0)
-    (λ q. rw (p, q) (eq-eqb (b + 256 * n) 0 (omega (arith, eqb-true b 0 p, eqb-true n 0 q))))
-    (λ q. rw (p, q) (ne-eqb (b + 256 * n) 0 (λ e. eqb-false n 0 q (omega arith)))))
-    (λ p. rw p (ne-eqb (b + 256 * n) 0 (λ e. eqb-false b 0 p (omega arith))))
-
 little-zero : (bs : List ℕ) → eqb (littleNumber bs) 0 ≡ allZero bs
 unfolding littleNumber allZero
 little-zero [] = refl
-little-zero (b ∷ bs) = sum-zero b (littleNumber bs) ∙ ap (λ (t : Bool). eqb b 0 && t) (little-zero bs)
+little-zero (b ∷ bs) =
+    both-zero b (littleNumber bs) (b + 256 * littleNumber bs) (λ p q. omega arith) (λ z. (omega arith, omega arith))
+    ∙ ap (λ (t : Bool). eqb b 0 && t) (little-zero bs)
 
 zero-onto : (xs ys : List ℕ) → allZero (reverseAux xs ys) ≡ allZero xs && allZero ys
 unfolding allZero

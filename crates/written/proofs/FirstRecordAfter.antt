@@ -73,16 +73,16 @@ module _ (file : List ℕ) {d : DescriptorNumbers} {addresses : List RecordNumbe
   pub clear-kept : noLeftovers file d ≡ true → noLeftovers (new file x) (then file x) ≡ true
   unfolding noLeftovers numbersAfter
   clear-kept e =
+      let l = left file x in
       let end = offsetOf (d .reclen) in
       let was = firstRecordOffsetOf (afterAex (d .nex)) in
-      let start = firstRecordOffsetOf (afterAex (then file x .nex)) in
-      let l = left file x in
-      let room = l .admitted .settled .nex-room in
-      let kept : part (new file x) start (end - start) ≡ part file start (end - start) =
-      first-keep start (end - start) (omega (arith, room, l .reclen)) (inr (omega arith)) (λ q. (inr (omega arith), inr (omega (arith, l .nex, nex-full d q)))) in
-      let zero = zero-part (part file was (end - was)) (start - was) (end - start) e (rw (length-part file was (end - was) (omega (arith, x .admitted .lent .first, room, l .extensions, l .nex, l .reclen))) (omega (arith, room, l .extensions, l .nex, l .reclen))) in
-      let inner = part-part file was (end - was) (start - was) (end - start) start (omega (arith, room, l .extensions, l .nex, l .reclen)) (omega (arith, l .extensions, l .nex)) in
-      ap allZero (kept ∙ sym inner ∙ zero) ∙ zeros-zero (end - start)
+      let start = firstRecordOffsetOf (afterAex (nexAfter d)) in
+      let later : was ≤ start = omega (arith, l .extensions) in
+      let room : start ≤ end = omega (arith, l .admitted .settled .nex-room) in
+      let stays = first-keep start (end - start) (omega arith) (inr (omega arith)) (λ q. (inr (omega arith), inr (omega (arith, nex-full d q)))) in
+      let before = part-part file was (end - was) (start - was) (end - start) start (omega arith) (omega arith) in
+      let zero = zero-part (part file was (end - was)) (start - was) (end - start) e (rw (length-part file was (end - was) (omega (arith, x .admitted .lent .first))) (omega arith)) in
+      ap allZero (stays ∙ sym before ∙ zero) ∙ zeros-zero (end - start)
 
   -- ---- what is written, for numbers in the order that the file's code says
 

@@ -35,6 +35,7 @@ pub record Shown (file : List ℕ) (d : DescriptorNumbers) (addresses : List Rec
   pub table : addressesOf file (numbersOf file .nex) ≡ addresses
   pub bounds : Admitted (length file) d addresses
 
+-- and that it does
 pub shows : (file : List ℕ) (d : DescriptorNumbers) (addresses : List RecordNumber) → Validates file d addresses → Shown file d addresses
 shows file d addresses v =
     let t = told file (validationOf file) d refl (ap (λ (x : Validation). x .numbers) v) in
