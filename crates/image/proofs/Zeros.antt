@@ -1,7 +1,7 @@
--- Laws of `allZero`: what is all zero is a run of zeros, and so is each part of it; and a turn of a loop that looks. Assumes nothing.
-use mathlib.Core.Path.{_≡_, refl, sym, ap, ap₂, _∙_}
+-- Laws of `allZero`: a run of zeros, two runs, bytes within others; and a turn of a loop that looks. Assumes nothing.
+use mathlib.Core.Path.{_≡_, refl, sym, ap, ap₂, subst, _∙_}
 use mathlib.Core.Bool.{true, _&&_, and-eq-true-iff, and-assoc, and-true}
-use Prim.Native.Nat.{ℕ, zero, suc, _+_, _≤_, _<_, max}
+use Prim.Native.Nat.{ℕ, zero, suc, _+_, _-_, _≤_, _<_, max}
 use native.Mathlib.Omega.{arith}
 use native.Mathlib.Numerals.{add-one}
 use borrow.Author.Tests.{eqb-true, eqb-false, eq-eqb, ne-eqb}
@@ -11,6 +11,7 @@ use lib.ListN.{length, getD, take}
 use lib.Seq.{take-suc}
 use Rattle.outcome.proofs.Either.{either}
 use Rattle.image.specs.Image.{part, zeros, allZero}
+use Rattle.image.proofs.Part.{part-add}
 
 -- a run of zeros is all zero
 pub zeros-zero : (n : ℕ) → allZero (zeros n) ≡ true
@@ -18,33 +19,28 @@ unfolding zeros allZero
 zeros-zero zero = refl
 zeros-zero (suc n) = zeros-zero n
 
--- and what is all zero is such a run
-zero-zeros : (bytes : List ℕ) → allZero bytes ≡ true → bytes ≡ zeros (length bytes)
-unfolding zeros allZero
-zero-zeros [] e = refl
-zero-zeros (b ∷ bytes) e =
-    let both = and-eq-true-iff (eqb b 0) (allZero bytes) .0 e in
-    ap₂ (λ (x : ℕ) (xs : List ℕ). x ∷ xs) (eqb-true b 0 (both .0)) (zero-zeros bytes (both .1))
-
-part-zeros : (m at n : ℕ) → at + n ≤ m → part (zeros m) at n ≡ zeros n
-unfolding part zeros
-part-zeros m zero zero h = refl
-part-zeros zero zero (suc n) h = absurd (omega arith)
-part-zeros (suc m) zero (suc n) h = ap (λ (xs : List ℕ). 0 ∷ xs) (part-zeros m zero n (omega arith))
-part-zeros zero (suc at) n h = absurd (omega arith)
-part-zeros (suc m) (suc at) n h = part-zeros m at n (omega arith)
-
--- a part of what is all zero is a run of zeros
-pub zero-part : (bytes : List ℕ) (at n : ℕ) → allZero bytes ≡ true → at + n ≤ length bytes → part bytes at n ≡ zeros n
-zero-part bytes at n e h = ap (λ (xs : List ℕ). part xs at n) (zero-zeros bytes e) ∙ part-zeros (length bytes) at n h
-
 -- two runs are all zero where both are
 pub zero-append : (xs ys : List ℕ) → allZero (xs ++ ys) ≡ allZero xs && allZero ys
 unfolding allZero
 zero-append [] ys = refl
 zero-append (x ∷ xs) ys = rw (zero-append xs ys) (sym (and-assoc (eqb x 0) (allZero xs) (allZero ys)))
 
--- a number is 0 where two others are, and nowhere else: so says the test
+-- bytes within bytes that are all zero are
+pub zero-within : (image : List ℕ) (at n b m : ℕ) → at ≤ b → b + m ≤ at + n → allZero (part image at n) ≡ true → allZero (part image b m) ≡ true
+zero-within image at n b m low high e =
+    let k = b - at in
+    let r = at + n - (b + m) in
+    let here : at + k ≡ b = omega arith in
+    let whole : n ≡ k + (m + r) = omega arith in
+    let cut = part-add image at k (m + r) ∙ ap (λ (xs : List ℕ). part image at k ++ xs) (part-add image (at + k) m r) in
+    let first = part image at k in
+    let inner = part image (at + k) m in
+    let last = part image (at + k + m) r in
+    let both = sym (ap allZero cut ∙ zero-append first (inner ++ last)) ∙ subst (λ (j : ℕ). allZero (part image at j) ≡ true) whole e in
+    let behind = sym (zero-append inner last) ∙ and-eq-true-iff (allZero first) _ .0 both .1 in
+    subst (λ (j : ℕ). allZero (part image j m) ≡ true) here (and-eq-true-iff (allZero inner) _ .0 behind .0)
+
+-- the test for 0 of a number that is 0 where two others are, and nowhere else
 pub both-zero : (a b c : ℕ) → (a ≡ 0 → b ≡ 0 → c ≡ 0) → (c ≡ 0 → (a ≡ 0) × (b ≡ 0)) → eqb c 0 ≡ eqb a 0 && eqb b 0
 both-zero a b c f g =
     either (eqb a 0)

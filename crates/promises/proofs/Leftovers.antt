@@ -10,8 +10,8 @@ use lib.Dec.{eqb}
 use lib.ListN.{length}
 use mir.Syntax.{w32}
 use Rattle.image.specs.Image.{part, allZero}
-use Rattle.image.proofs.Part.{length-part, part-add, part-part}
-use Rattle.image.proofs.Zeros.{zeros-zero, zero-part, zero-append}
+use Rattle.image.proofs.Part.{part-add}
+use Rattle.image.proofs.Zeros.{zero-append, zero-within}
 use Rattle.words.proofs.Access.{bits-zero}
 use Rattle.geometry.specs.Units.{offsetOf, firstRecordOffsetOf}
 use Rattle.layout.specs.FirstRecordWords.{afterAex}
@@ -33,15 +33,7 @@ use Rattle.promises.proofs.CreatedSound.{created-sound}
 use Rattle.promises.proofs.OrderPassed.{check-passed}
 use Rattle.promises.proofs.Demand3.{demand-3}
 
--- ---- bytes in words of four
-
--- each word of bytes that are all zero is
-words-of : (file : List ℕ) (at n i : ℕ) → at + 4 * n ≤ length file → i < n → allZero (part file at (4 * n)) ≡ true → allZero (part file (at + 4 * i) 4) ≡ true
-words-of file at n i h l e =
-    ap allZero (sym (part-part file at (4 * n) (4 * i) 4 (at + 4 * i) (omega arith) refl) ∙ zero-part (part file at (4 * n)) (4 * i) 4 e (rw (length-part file at (4 * n) h) (omega arith)))
-    ∙ zeros-zero 4
-
--- and bytes are all zero where each word of them is
+-- bytes are all zero where each word of four of them is
 of-words : (file : List ℕ) (at n : ℕ) → ((i : ℕ) → i < n → allZero (part file (at + 4 * i) 4) ≡ true) → allZero (part file at (4 * n)) ≡ true
 unfolding part allZero
 of-words file at zero f = refl
@@ -54,15 +46,9 @@ of-words file at (suc n) f =
 
 -- ---- rule 29, word by word
 
-module _ (file : List ℕ) (d : DescriptorNumbers) (room : 14 + 2 * d .nex ≤ d .reclen) (long : 4 * d .reclen ≤ length file) where
+module _ (file : List ℕ) (d : DescriptorNumbers) (room : 14 + 2 * d .nex ≤ d .reclen) where
   abbrev start : ℕ
   start = firstRecordOffsetOf (afterAex (d .nex))
-
-  abbrev count : ℕ
-  count = d .reclen - (14 + 2 * d .nex)
-
-  in-words : offsetOf (d .reclen) - start ≡ 4 * count
-  in-words = omega (arith, room)
 
   word-zero : (w : ℕ) → eqb (field4 file (record { 0 = w })) 0 ≡ allZero (part file (4 * (w - 1)) 4)
   unfolding field4
@@ -72,17 +58,18 @@ module _ (file : List ℕ) (d : DescriptorNumbers) (room : 14 + 2 * d .nex ≤ d
   pub rest-zero : noLeftovers file d ≡ true → RestZero file d
   unfolding noLeftovers
   rest-zero e w low high =
-      let i = w - (15 + 2 * d .nex) in
-      let at : start + 4 * i ≡ 4 * (w - 1) = omega arith in
-      let zero = words-of file start count i (omega (arith, room, long)) (omega (arith, room)) (subst (λ (n : ℕ). allZero (part file start n) ≡ true) in-words e) in
-      eqb-true (field4 file (record { 0 = w })) 0 (word-zero w ∙ subst (λ (k : ℕ). allZero (part file k 4) ≡ true) at zero)
+      eqb-true (field4 file (record { 0 = w })) 0
+      (word-zero w ∙ zero-within file start (offsetOf (d .reclen) - start) (4 * (w - 1)) 4 (omega arith) (omega (arith, room)) e)
 
   -- and where every such word is zero, the rule holds
   pub zero-rest : RestZero file d → noLeftovers file d ≡ true
   unfolding noLeftovers
-  zero-rest f = subst (λ (n : ℕ). allZero (part file start n) ≡ true) (sym in-words) (of-words file start count zero-at)
+  zero-rest f =
+      let count = d .reclen - (14 + 2 * d .nex) in
+      let size : 4 * count ≡ offsetOf (d .reclen) - start = omega (arith, room) in
+      subst (λ (n : ℕ). allZero (part file start n) ≡ true) size (of-words file start count zero-at)
     where
-      zero-at : (i : ℕ) → i < count → allZero (part file (start + 4 * i) 4) ≡ true
+      zero-at : (i : ℕ) → i < d .reclen - (14 + 2 * d .nex) → allZero (part file (start + 4 * i) 4) ≡ true
       zero-at i l =
           let w = 15 + 2 * d .nex + i in
           let at : 4 * (w - 1) ≡ start + 4 * i = omega arith in
@@ -92,7 +79,7 @@ module _ (file : List ℕ) (d : DescriptorNumbers) (room : 14 + 2 * d .nex ≤ d
 
 -- a file that is admitted has no leftovers
 pub admitted-rest : (file : List ℕ) → fileRefusal file ≡ 0 → RestZero file (numbersOf file)
-admitted-rest file z = let a = file-admitted file z in rest-zero file (numbersOf file) (a .settled .nex-room) (a .lent .first) (file-passed file z .clear)
+admitted-rest file z = rest-zero file (numbersOf file) (file-admitted file z .settled .nex-room) (file-passed file z .clear)
 
 -- nor has one that was created, whatever stood there
 pub created-rest : (file : List ℕ) (s : Settings) → creationRefusal (length file) s ≡ 0 → RestZero (createdFile file s) (numbersOf (createdFile file s))

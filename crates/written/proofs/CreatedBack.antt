@@ -137,8 +137,7 @@ module _ (file : List ℕ) (d : DescriptorNumbers) where
       let rest = 4 * (d .reclen - 14) in
       let at : firstRecordOffsetOf (afterAex (d .nex)) ≡ 56 = omega (arith, none) in
       let size : 4 * d .reclen - firstRecordOffsetOf (afterAex (d .nex)) ≡ length (zeros rest) = omega (arith, at, length-zeros rest) in
-      let zero : part (writes file (firstWrites d)) 56 (length (zeros rest)) ≡ zeros rest =
-      follow-read file 0 (firstWrites d) (first-follows d) 12 56 (zeros rest) refl (omega (arith, length-zeros rest)) in
+      let zero = follow-read file 0 (firstWrites d) (first-follows d) 12 56 (zeros rest) refl (omega (arith, length-zeros rest)) in
       ap₂ (λ (a n : ℕ). allZero (part (firstWritten file d) a n)) at size
       ∙ ap (λ (f : List ℕ). allZero (part f 56 (length (zeros rest)))) first-one
       ∙ ap allZero zero

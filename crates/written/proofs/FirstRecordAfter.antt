@@ -10,9 +10,8 @@ use mir.Syntax.{Width, w32, w64}
 use mir.Val.{bits, bytes}
 use Rattle.image.specs.Image.{part, allZero}
 use Rattle.image.specs.Writes.{Write, put, writes, Follows, Apart}
-use Rattle.image.proofs.Part.{length-part, part-part}
 use Rattle.image.proofs.Writes.{writes-read, BehindOf}
-use Rattle.image.proofs.Zeros.{zeros-zero, zero-part}
+use Rattle.image.proofs.Zeros.{zero-within}
 use Rattle.words.specs.declared.byte_order.ByteOrder.{ByteOrder}
 use Rattle.words.specs.Word.{numeral, bitsAt}
 use Rattle.words.proofs.Table.{places-same, places-next}
@@ -80,9 +79,7 @@ module _ (file : List ℕ) {d : DescriptorNumbers} {addresses : List RecordNumbe
       let later : was ≤ start = omega (arith, l .extensions) in
       let room : start ≤ end = omega (arith, l .admitted .settled .nex-room) in
       let stays = first-keep start (end - start) (omega arith) (inr (omega arith)) (λ q. (inr (omega arith), inr (omega (arith, nex-full d q)))) in
-      let before = part-part file was (end - was) (start - was) (end - start) start (omega arith) (omega arith) in
-      let zero = zero-part (part file was (end - was)) (start - was) (end - start) e (rw (length-part file was (end - was) (omega (arith, x .admitted .lent .first))) (omega arith)) in
-      ap allZero (stays ∙ sym before ∙ zero) ∙ zeros-zero (end - start)
+      ap allZero stays ∙ zero-within file was (end - was) start (end - start) later (omega arith) e
 
   -- ---- what is written, for numbers in the order that the file's code says
 

@@ -9,9 +9,9 @@ use lib.Dec.{leb, eqb}
 use lib.ListN.{length}
 use Rattle.layout.specs.FileCode.{byteOrderOf}
 use Rattle.descriptor.specs.declared.numbers.DescriptorNumbers.{DescriptorNumbers}
-use Rattle.descriptor.specs.FirstRecord.{numbersOf, addressesOf}
+use Rattle.descriptor.specs.FirstRecord.{numbersOf}
 use Rattle.descriptor.specs.Bounds.{Settled, Lent}
-use Rattle.descriptor.specs.Rules.{settingRefusal, fillingRefusal, noLeftovers, fileRefusal}
+use Rattle.descriptor.specs.Rules.{settingRefusal, noLeftovers, fileRefusal}
 use Rattle.descriptor.proofs.Tests.{holds, broken}
 use Rattle.descriptor.proofs.Passed.{settled, lent}
 use Rattle.descriptor.proofs.Answered.{file-rest, file-order, answer-numbers, answer-refused}
@@ -28,12 +28,6 @@ read c = c .before .before
 -- what the tests passed show of the file
 long : (c : tie.Else1) → leb 64 (length (c .before .before .args .file .now)) ≡ true
 long c = le-leb 64 (length (c .before .before .args .file .now)) (c .if1 .left)
-
-rest : (c : tie.After-numbers-of) → let file = file-of c in
-    let s = settingRefusal (length file) (numbersOf file) in
-    let f = fillingRefusal (length file) (numbersOf file) (addressesOf file (numbersOf file .nex)) in
-    fileRefusal file ≡ cond (eqb s 0) (cond (eqb f 0) (cond (noLeftovers file (numbersOf file)) 0 29) f) s
-rest c = file-rest (file-of c) (long (c .before))
 
 setting : (c : tie.After-setting-refusal) → let file = file-of (c .before) in c .setting-refusal .result ≡ settingRefusal (length file) (numbersOf file)
 setting c = rw (c .before .numbers-of .ensures) at (c .setting-refusal .ensures)
@@ -54,7 +48,7 @@ last : (c : tie.After-filling-refusal) → let file = file-of (read (c .before .
 last c =
     let e = c .before .before in
     let filling = rw (c .before .addresses-of .ensures, read e .numbers-of .ensures) at (c .filling-refusal .ensures) in
-    rest (read e) ∙ rw (none e, filling)
+    file-rest (file-of (read e)) (long (read e .before)) ∙ rw (none e, filling)
 
 clear : (c : tie.After-no-leftovers) → let e = c .before .before .before .before in c .no-leftovers .result ≡ noLeftovers (file-of (read e)) (numbersOf (file-of (read e)))
 clear c = rw (read (c .before .before .before .before) .numbers-of .ensures) at (c .no-leftovers .ensures)
@@ -72,7 +66,7 @@ validate-spec =
     (λ c.
     let s = c .before .before in
     let other = ne-eqb (s .setting-refusal .result) 0 (c .before .if2 .taken) in
-    c .refused2 .ensures ∙ sym (answer-refused _ _ (rest (s .before) ∙ rw (← (setting s), other)) other))
+    c .refused2 .ensures ∙ sym (answer-refused _ _ (file-rest (file-of (s .before)) (long (s .before .before)) ∙ rw (← (setting s), other)) other))
     (λ c κs. let (d, l) = shown c in let e = read c .numbers-of .ensures in (order c, rw e (omega arith), rw e (omega arith)))
     (λ c κs. rw (read (c .before) .numbers-of .ensures) (shown (c .before)))
     (λ c κs. search needs)
