@@ -1,6 +1,6 @@
 //! The independent implementation of document 01, with the capacities of Q-2, the byte orders of Q-4 and the leftovers of
-//! Q-7 in document 02, plain and slow, over the lent bytes of a file: written from these papers and the memo alone. Every number is an
-//! i128, so that no sum or product of stored numbers can wrap.
+//! Q-7 in document 02, plain and slow, over the lent bytes of a file: written from these papers and the memo alone. Every
+//! number is an i128, so that no sum or product of stored numbers can wrap.
 
 /// The code of an entry, in files of both orders.
 pub const ENTRY_CODE: [u8; 4] = [0x32, 0x20, 0x20, 0x20];

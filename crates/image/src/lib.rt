@@ -3,7 +3,7 @@
 //
 // An image is a list of bytes, and offsets count bytes from 0. A function that writes says what the
 // whole slice holds at exit, so a caller learns of every byte whether it changed. Every write of this
-// project goes through one of the two.
+// project goes through `put` or `zero`.
 ghost use Prim.Native.Nat.{_+_, _≤_, max};
 ghost use lib.ListN.{length};
 ghost use Rattle.outcome.specs.Outcome.{Leaves, Answers};
