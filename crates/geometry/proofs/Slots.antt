@@ -6,7 +6,7 @@ use native.Mathlib.Omega.{arith}
 use native.Mathlib.Nat.{div-add-mod', mod-lt, mul-le-mul-right, div-lt-iff-lt-mul, lt-of-not-le}
 use native.Mathlib.Decide.{decLe, le-ind}
 use native.Mathlib.Numerals.{add-one}
-use borrow.Author.Tests.{leb-true, leb-false}
+use borrow.Author.Tests.{leb-true, leb-false, lt-leb}
 use lib.Dec.{leb}
 use Rattle.outcome.proofs.Either.{either}
 use Rattle.geometry.specs.declared.growth.Growth.{Growth}
@@ -106,6 +106,14 @@ slot-more g nex more lind e h l m =
     let few = extension-holds g nex (e .0) h l in
     let many = extension-holds g more (e .0) h (omega (arith, total-le g nex more m)) in
     ap (λ (k : ℕ). slotAt k (e .0 - totalOf g (k - 1)) lind) (holder-only g (e .0) _ _ (many .0) (few .0))
+
+-- the entry behind all of nex extensions has the first slot of the next
+pub slot-begins : (g : Growth) (nex lind : ℕ) (e : EntryNumber) → e .0 ≡ totalOf g nex + 1 → slotOf g (nex + 1) lind e ≡ slotAt (nex + 1) 1 lind
+unfolding slotOf extensionFor
+slot-begins g nex lind e h =
+    let last : suc nex - 1 ≡ nex = omega arith in
+    let place : e .0 - totalOf g nex ≡ 1 = omega arith in
+    rw (add-one nex, lt-leb (e .0) (totalOf g nex) (omega arith), last, place)
 
 -- place i of n places ends within them
 place-within : (lind i n : ℕ) → 1 ≤ i → i ≤ n → (i - 1) * lind + lind ≤ n * lind

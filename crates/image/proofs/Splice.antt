@@ -1,11 +1,11 @@
--- Laws of `splice` and `zeros`: lengths, the plain form, two writes, and a turn of a loop that writes. Assumes nothing.
+-- Laws of `splice` and `zeros`: lengths, the plain form, two writes beside, over and behind each other, and a turn of a loop that writes. Assumes nothing.
 use mathlib.Core.Path.{_≡_, refl, sym, ap, _∙_}
 use Prim.Native.Nat.{ℕ, zero, suc, _+_, _≤_, _<_}
 use native.Mathlib.Omega.{arith}
 use native.Mathlib.Nat.{suc-add, zero-add}
 use native.Mathlib.Numerals.{add-one}
 use mathlib.Core.List.{List, [], _∷_, _++_}
-use lib.ListN.{length, getD, set, take, drop, length-replicate, getD-replicate}
+use lib.ListN.{length, getD, set, take, drop, length-replicate, getD-replicate, replicate-append-replicate}
 use lib.Seq.{drop-nil, take-suc, length-take-le}
 use Rattle.image.specs.Image.{splice, zeros}
 
@@ -47,10 +47,35 @@ splice-adjacent (x ∷ image) zero [] b zs e = let z : b ≡ zero = omega arith 
 splice-adjacent (x ∷ image) zero (y ∷ ys) zero zs e = absurd (omega arith)
 splice-adjacent (x ∷ image) zero (y ∷ ys) (suc b) zs e = ap (λ (l : List ℕ). y ∷ l) (splice-adjacent image zero ys b zs (omega arith))
 
+-- a write over one as long leaves nothing of it
+pub splice-over : (image : List ℕ) (at : ℕ) (xs ys : List ℕ) → length xs ≡ length ys → splice (splice image at xs) at ys ≡ splice image at ys
+unfolding splice
+splice-over [] at xs ys e = refl
+splice-over (v ∷ image) (suc at) xs ys e = ap (λ (l : List ℕ). v ∷ l) (splice-over image at xs ys e)
+splice-over (v ∷ image) zero [] ys e = refl
+splice-over (v ∷ image) zero (x ∷ xs) [] e = absurd (omega arith)
+splice-over (v ∷ image) zero (x ∷ xs) (y ∷ ys) e = ap (λ (l : List ℕ). y ∷ l) (splice-over image zero xs ys (omega arith))
+
+-- two writes of which one ends before the other starts may change places
+pub splice-swap : (image : List ℕ) (a : ℕ) (ys : List ℕ) (b : ℕ) (zs : List ℕ) → a + length ys ≤ b
+    → splice (splice image a ys) b zs ≡ splice (splice image b zs) a ys
+unfolding splice
+splice-swap [] a ys b zs h = refl
+splice-swap (x ∷ image) (suc a) ys (suc b) zs h = ap (λ (l : List ℕ). x ∷ l) (splice-swap image a ys b zs (omega arith))
+splice-swap (x ∷ image) (suc a) ys zero zs h = absurd (omega arith)
+splice-swap (x ∷ image) zero [] b zs h = sym (splice-nil (splice (x ∷ image) b zs) zero)
+splice-swap (x ∷ image) zero (y ∷ ys) (suc b) zs h = ap (λ (l : List ℕ). y ∷ l) (splice-swap image zero ys b zs (omega arith))
+splice-swap (x ∷ image) zero (y ∷ ys) zero zs h = absurd (omega arith)
+
 -- a run of zeros is as long as asked
 pub length-zeros : (n : ℕ) → length (zeros n) ≡ n
 unfolding zeros
 length-zeros n = length-replicate n 0
+
+-- two runs of zeros are one
+pub zeros-append : (n m : ℕ) → zeros n ++ zeros m ≡ zeros (n + m)
+unfolding zeros
+zeros-append n m = replicate-append-replicate n m 0
 
 -- one byte set is one byte written
 set-splice : (image : List ℕ) (at b : ℕ) → set image at b ≡ splice image at (b ∷ [])

@@ -29,3 +29,8 @@ Follows a (put at ys ∷ ws) = (at ≡ a) × Follows (at + length ys) ws
 abbrev pub Apart : ℕ → ℕ → List Write → Type 0
 Apart a n [] = Unit
 Apart a n (put at ys ∷ ws) = ((a + n ≤ at) ⊎ (at + length ys ≤ a)) × Apart a n ws
+
+-- no two of the writes share a byte
+abbrev pub PairwiseApart : List Write → Type 0
+PairwiseApart [] = Unit
+PairwiseApart (put at ys ∷ ws) = Apart at (length ys) ws × PairwiseApart ws

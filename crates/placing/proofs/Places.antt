@@ -3,16 +3,17 @@ use Prim.Native.Nat.{ℕ, _+_, _*_, _-_, _^_, _≤_, _<_}
 use mathlib.Core.Path.{_≡_, refl, ap, _∙_}
 use mathlib.Core.Bool.{Bool, true, false, cond}
 use native.Mathlib.Omega.{arith}
-use native.Mathlib.Nat.{div-add-mod', mul-le-mul, mul-le-mul-left}
+use native.Mathlib.Nat.{div-add-mod', mul-le-mul, mul-le-mul-left, mul-le-mul-right}
 use Rattle.geometry.specs.Units.{positionOf}
 use Rattle.geometry.specs.Growth.{capacityOf}
 use Rattle.geometry.specs.Area.{recordsFor, areaRecords}
+use Rattle.geometry.proofs.Capacities.{capacity-some}
 use Rattle.geometry.proofs.Slots.{records-hold, records-least}
 use Rattle.descriptor.specs.declared.numbers.DescriptorNumbers.{DescriptorNumbers}
 use Rattle.descriptor.specs.FirstRecord.{mexOf, growthIn, freeOf}
 use Rattle.descriptor.specs.Bounds.{Settled}
 use Rattle.descriptor.proofs.AreaOrder.{records-small}
-use Rattle.placing.specs.Placing.{full, newArea, afterNewArea, entryStart}
+use Rattle.placing.specs.Placing.{full, newArea, newStart, afterNewArea, entryStart}
 use Rattle.placing.specs.Bounds.{Extensible}
 
 -- whole records have less than a record more than the words that they hold
@@ -31,11 +32,7 @@ unfolding mexOf
 room-more reclen nex h l = omega arith
 
 module _ (d : DescriptorNumbers) where
-  -- where the new area starts
-  abbrev pub newStart : ℕ
-  newStart = positionOf (d .reclen) (newArea d) (record { 0 = 1 })
-
-  -- and where it ends
+  -- where the new area ends
   abbrev pub newEnd : ℕ
   newEnd = positionOf (d .reclen) (afterNewArea d) (record { 0 = 1 })
 
@@ -43,13 +40,18 @@ module _ (d : DescriptorNumbers) where
   abbrev pub newRecords : ℕ
   newRecords = areaRecords (capacityOf (growthIn d) (d .nex + 1)) (d .lind) (d .reclen)
 
-  -- it starts behind the records that hold all words before the next free position
-  new-position : newStart ≡ recordsFor (freeOf d) (d .reclen) * d .reclen
+  -- the new area starts behind the records that hold all words before the next free position
+  new-position : newStart d ≡ recordsFor (freeOf d) (d .reclen) * d .reclen
   unfolding newArea
   new-position = first-word (d .reclen) (recordsFor (freeOf d) (d .reclen))
 
-  -- the new area is as long as its records
-  pub new-end : newEnd ≡ newStart + newRecords * d .reclen
+  -- at a record that there is
+  pub new-some : 1 ≤ newArea d .0
+  unfolding newArea
+  new-some = omega arith
+
+  -- it is as long as its records
+  pub new-end : newEnd ≡ newStart d + newRecords * d .reclen
   unfolding newArea afterNewArea
   new-end =
       let r = recordsFor (freeOf d) (d .reclen) in
@@ -68,12 +70,19 @@ module _ (d : DescriptorNumbers) where
 
   module _ (s : Settled d) where
     -- the new area starts at or after the next free position
-    pub new-low : freeOf d ≤ newStart
+    pub new-low : freeOf d ≤ newStart d
     new-low = rw new-position (records-hold (freeOf d) (d .reclen) (omega (arith, s .reclen-low)))
 
     -- and less than a record behind it
-    pub new-near : newStart < freeOf d + d .reclen
+    pub new-near : newStart d < freeOf d + d .reclen
     new-near = rw new-position (records-under (freeOf d) (d .reclen) (omega (arith, s .reclen-low)))
+
+    -- it holds its first slot
+    pub new-slot : newStart d + d .lind ≤ newEnd
+    new-slot =
+        let entries = capacityOf (growthIn d) (d .nex + 1) in
+        let some = capacity-some (growthIn d) (s .lex1-low) (s .gex-low) (d .nex + 1) (omega arith) in
+        omega (arith, new-end, records-hold (entries * d .lind) (d .reclen) (omega (arith, s .reclen-low)), mul-le-mul-right (d .lind) some)
 
     -- the entry never starts before the next free position
     pub start-low : freeOf d ≤ entryStart d

@@ -19,6 +19,10 @@ full d = eqb (entriesBefore (d .xnext)) (totalOf (growthIn d) (d .nex))
 unfoldable pub newArea : DescriptorNumbers → RecordNumber
 newArea d = record { 0 = recordsFor (freeOf d) (d .reclen) + 1 }
 
+-- the position where it starts
+abbrev pub newStart : DescriptorNumbers → ℕ
+newStart d = positionOf (d .reclen) (newArea d) (record { 0 = 1 })
+
 -- the record after the new area
 unfoldable pub afterNewArea : DescriptorNumbers → RecordNumber
 afterNewArea d = record { 0 = newArea d .0 + areaRecords (capacityOf (growthIn d) (d .nex + 1)) (d .lind) (d .reclen) }

@@ -7,6 +7,7 @@ use mathlib.Core.List.{List}
 use native.Mathlib.Omega.{arith}
 use lib.ListN.{length}
 use Rattle.image.specs.Image.{zeros}
+use Rattle.image.proofs.Writes.{Beside, beside-part}
 use Rattle.geometry.specs.declared.units.RecordNumber.{RecordNumber}
 use Rattle.geometry.specs.Units.{firstRecordOffsetOf}
 use Rattle.descriptor.specs.declared.numbers.DescriptorNumbers.{DescriptorNumbers}
@@ -19,7 +20,7 @@ use Rattle.writer.specs.Answers.{fileAfter}
 use Rattle.storing.specs.Bounds.{Accepted}
 use Rattle.outcome.proofs.Either.{either}
 use Rattle.placing.proofs.Places.{start-free}
-use Rattle.written.proofs.Frame.{Beside, beside-part, area-zero, frame}
+use Rattle.written.proofs.Frame.{area-zero, frame}
 use Rattle.written.proofs.AppendLeaves.{new, slot, left}
 use Rattle.written.proofs.ReadBack.{admits, file-written}
 use Rattle.promises.specs.Bytes.{byteAt, inFields, inWords, Says, firstOf, AsClassed, appendClasses}

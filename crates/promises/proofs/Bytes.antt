@@ -10,8 +10,8 @@ use lib.Dec.{leb}
 use lib.ListN.{getD, drop, getD-replicate}
 use lib.Seq.{getD-take, getD-drop}
 use Rattle.image.specs.Image.{part, zeros}
+use Rattle.image.proofs.Writes.{Beside}
 use Rattle.outcome.proofs.Either.{either}
-use Rattle.written.proofs.Frame.{Beside}
 use Rattle.promises.specs.Bytes.{byteAt, covers, Class, other, Test, when, firstOf}
 
 -- ---- a test

@@ -10,7 +10,7 @@ use Rattle.image.specs.Image.{part, zeros}
 use Rattle.image.specs.Writes.{writes}
 use Rattle.image.proofs.Part.{part-part}
 use Rattle.image.proofs.Splice.{length-zeros}
-use Rattle.image.proofs.Writes.{length-writes, follow-read}
+use Rattle.image.proofs.Writes.{length-writes, follow-read, stretch-keep}
 use Rattle.words.proofs.Number.{length-numeral}
 use Rattle.layout.proofs.FileCodes.{length-code}
 use Rattle.descriptor.specs.declared.numbers.Settings.{Settings}
@@ -18,7 +18,6 @@ use Rattle.descriptor.specs.declared.numbers.DescriptorNumbers.{DescriptorNumbe
 use Rattle.descriptor.specs.FirstRecord.{createdOf}
 use Rattle.writer.specs.Creation.{creationRefusal, createdFile}
 use Rattle.writer.proofs.Created.{created-fits}
-use Rattle.written.proofs.Frame.{follow-keep}
 use Rattle.written.proofs.CreatedBack.{firstWrites, first-follows, first-one, created-written}
 use Rattle.promises.specs.Bytes.{byteAt, inFields, Says, firstOf, AsClassed, createClasses}
 use Rattle.promises.proofs.Bytes.{covered, uncovered, beside-both, byte-same, byte-zero, pass, by-tests}
@@ -44,7 +43,7 @@ module _ (file : List ℕ) (d : DescriptorNumbers) (low : 14 ≤ d .reclen) (roo
   same-there : inFields 1 14 i ≡ false → inFields 15 rest i ≡ false → byteAt new i ≡ byteAt file i
   same-there fields behind =
       byte-same new file i i
-      (follow-keep i 1 file 0 (56 + 4 * rest) (firstWrites d) (first-follows d) (simp (length-append, length-numeral, length-code, length-zeros) (omega arith))
+      (stretch-keep i 1 file 0 (56 + 4 * rest) (firstWrites d) (first-follows d, simp (length-append, length-numeral, length-code, length-zeros) (omega arith))
       (beside-both i 0 56 56 (4 * rest) (56 + 4 * rest) refl refl (uncovered 0 14 i fields) (uncovered 56 rest i behind)))
 
   created-byte : Says (firstOf (createClasses (d .reclen) i)) (byteAt file i) (byteAt new i)

@@ -6,6 +6,7 @@ use mathlib.Core.List.{List}
 use native.Mathlib.Omega.{arith}
 use lib.ListN.{length}
 use Rattle.image.specs.Image.{part}
+use Rattle.image.proofs.Writes.{Beside}
 use Rattle.geometry.specs.declared.units.RecordNumber.{RecordNumber}
 use Rattle.geometry.specs.declared.units.EntryNumber.{EntryNumber}
 use Rattle.geometry.specs.Units.{entriesBefore}
@@ -25,7 +26,7 @@ use Rattle.storing.specs.Bounds.{Accepted}
 use Rattle.placing.proofs.Places.{nex-more}
 use Rattle.written.proofs.AppendLeaves.{new, then, areasThen, slot, left, slot-stays}
 use Rattle.written.proofs.FirstRecordAfter.{order-kept}
-use Rattle.written.proofs.Frame.{Beside, frame}
+use Rattle.written.proofs.Frame.{frame}
 use Rattle.promises.proofs.Areas.{areas-order, area-holds}
 use Rattle.promises.proofs.Spread.{opened-behind, opened-free}
 

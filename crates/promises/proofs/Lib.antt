@@ -23,6 +23,7 @@ pub mod Orders
 pub mod OrderAgain
 pub mod Demand3
 pub mod Leftovers
+pub mod WrittenOnce
 pub mod RefusalMeans
 pub mod CheckMeans
 pub mod WorkedExamples

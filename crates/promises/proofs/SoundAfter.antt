@@ -6,6 +6,7 @@ use mathlib.Core.List.{List}
 use native.Mathlib.Omega.{arith}
 use lib.ListN.{length}
 use mir.Val.{SFits}
+use Rattle.image.proofs.Writes.{Beside}
 use Rattle.words.specs.Word.{integer4}
 use Rattle.geometry.specs.declared.units.RecordNumber.{RecordNumber}
 use Rattle.geometry.specs.Units.{entriesBefore}
@@ -25,7 +26,6 @@ use Rattle.placing.specs.Placing.{entryStart}
 use Rattle.storing.specs.Bounds.{Accepted}
 use Rattle.written.proofs.Cases.{by-last}
 use Rattle.written.proofs.AppendLeaves.{new, then, areasThen, slot, left, area-from, area-to, area-new, by-area, area-last}
-use Rattle.written.proofs.Frame.{Beside}
 use Rattle.written.proofs.Reopened.{not-refused, entered-new}
 use Rattle.promises.specs.Regions.{SoundIn}
 use Rattle.promises.proofs.Areas.{area-end-le, area-holds}

@@ -1,8 +1,10 @@
 -- Cases of the requests of 02, worked by hand, as one table. A row has the number of its request, what the definitions give, and what 02 says or the rules give by hand.
-use Prim.Native.Nat.{ℕ, _*_, _-_}
+use Prim.Native.Nat.{ℕ, _+_, _*_, _-_, _/_}
 use mathlib.Core.List.{List, [], _∷_, _++_, map}
 use lib.IntN.{ℤ, pos, negℤ}
+use lib.ListN.{length}
 use Rattle.image.specs.Image.{splice}
+use Rattle.image.specs.Writes.{Write, put, writes}
 use Rattle.geometry.specs.declared.units.RecordNumber.{RecordNumber}
 use Rattle.geometry.specs.Units.{offsetOf}
 use Rattle.geometry.specs.Growth.{growthOf, capacityOf}
@@ -16,7 +18,8 @@ use Rattle.writer.specs.Creation.{creationRefusal, createdFile}
 use Rattle.writer.specs.Answers.{appendOf, fileAfter}
 use Rattle.promises.specs.Contents.{numbersIn, openedIn}
 use Rattle.promises.specs.Calls.{following}
-use Rattle.promises.specs.FileA.{settingsIn, settings, lent, append3, created, after2, A, bigA}
+use Rattle.promises.specs.WrittenOnce.{writesOf, timesWritten}
+use Rattle.promises.specs.FileA.{settingsIn, settings, lent, append1, append2, append3, created, after1, after2, A, bigAfter2, bigA}
 use Rattle.promises.specs.ByHand.{wordsAt, little, big, firstRecord, entryHead, slot}
 use Rattle.promises.specs.Examples.{Row, entry, aex, at, identifierFirst, opensAt, filled, numbersRefusal, imageWith}
 use Rattle.promises.specs.Examples.Row.{Q}
@@ -62,6 +65,25 @@ withByte file at byte = splice file at (byte ∷ [])
 -- a file with another second byte in its code
 abbrev pub recoded : List ℕ → ℕ → List ℕ
 recoded file byte = withByte file 1 byte
+
+-- ---- Q-6
+
+-- the words that each write takes: the position of the first, and how many
+abbrev pub placesOf : List Write → List (ℕ × ℕ)
+placesOf [] = []
+placesOf (put at ys ∷ ws) = (at / 4, length ys / 4) ∷ placesOf ws
+
+-- the head of an entry that starts at a position: code, version, nsec, nword, adata, ldata and xnum
+abbrev pub headPlaces : ℕ → List (ℕ × ℕ)
+headPlaces start = (start, 1) ∷ (start + 1, 1) ∷ (start + 2, 1) ∷ (start + 3, 2) ∷ (start + 5, 2) ∷ (start + 7, 2) ∷ (start + 9, 2) ∷ []
+
+-- an index of 4 words: record, word, and the application's
+abbrev pub slotPlaces : ℕ → List (ℕ × ℕ)
+slotPlaces slot = (slot, 2) ∷ (slot + 2, 1) ∷ (slot + 3, 1) ∷ []
+
+-- xnext, nextrec and nextword: words 7, 9 and 11, at positions 6, 8 and 10
+abbrev pub countPlaces : List (ℕ × ℕ)
+countPlaces = (6, 2) ∷ (8, 2) ∷ (10, 1) ∷ []
 
 -- ---- Q-7
 
@@ -126,6 +148,20 @@ requestExamples =
     Q 4 (creationRefusal 480 (settingsIn (negℤ (pos 1)) 20 4 2 20)) 2 ∷
     Q 4 (creationRefusal 63 (settingsIn (pos 2) 20 4 2 20)) 1 ∷
     Q 4 (creationRefusal 480 (settingsIn (pos 2) 15 4 2 20)) 2 ∷
+    -- append (1): the entry at position 40, with an identifier, a length, an address, 3 words of a section and 5 of data; slot 1 of the new area at 20,
+    -- nothing skipped, 16 words behind the slot; nex and the first address, words 13 and 15
+    Q 6 (placesOf (writesOf (created 6) append1))
+    (headPlaces 40 ++ (51, 1) ∷ (52, 2) ∷ (54, 2) ∷ (56, 3) ∷ (59, 5) ∷ slotPlaces 20 ++ (20, 0) ∷ (24, 16) ∷ (12, 1) ∷ (14, 2) ∷ countPlaces) ∷
+    -- append (2): the entry at 64, with nothing else; slot 2 at 24; no new area
+    Q 6 (placesOf (writesOf (after1 6) append2)) (headPlaces 64 ++ (75, 0) ∷ (75, 0) ∷ (75, 0) ∷ (75, 0) ∷ (75, 0) ∷ slotPlaces 24 ++ countPlaces) ∷
+    -- append (3): the entry at 100; slot 1 of the new area at 80, 5 words skipped before it, 16 behind the slot; nex and the second address, words 13 and 17
+    Q 6 (placesOf (writesOf (after2 6) append3))
+    (headPlaces 100 ++ (111, 0) ∷ (111, 0) ∷ (111, 0) ∷ (111, 0) ∷ (111, 0) ∷ slotPlaces 80 ++ (75, 5) ∷ (84, 16) ∷ (12, 1) ∷ (16, 2) ∷ countPlaces) ∷
+    -- so of the words about the new area, from the last of entry 2 to the first free one, each that is written is written once
+    Q 6 (map (λ w. timesWritten w (writesOf (after2 6) append3)) (74 ∷ 75 ∷ 79 ∷ 80 ∷ 83 ∷ 84 ∷ 99 ∷ 100 ∷ 110 ∷ 111 ∷ [])) (0 ∷ 1 ∷ 1 ∷ 1 ∷ 1 ∷ 1 ∷ 1 ∷ 1 ∷ 1 ∷ 0 ∷ []) ∷
+    -- and these writes make A, in either order
+    Q 6 (writes (after2 6) (writesOf (after2 6) append3)) A ∷
+    Q 6 (writes bigAfter2 (writesOf bigAfter2 append3)) bigA ∷
     -- A has its addresses in words 15 to 18: words 19 and 20 are zero, and word 21 is the first of record 2
     Q 7 (fileRefusal A) 0 ∷
     Q 7 (fileRefusal (leftIn 19 A)) 29 ∷

@@ -1,23 +1,28 @@
--- What holds of an accepted append: its words are within the bytes lent, and its numbers are admitted again. Assumes nothing.
+-- What holds of an accepted append: its words are within the bytes lent, its numbers are admitted again, and its index has a slot before it. Assumes nothing.
 use Prim.Native.Nat.{ℕ, _+_, _*_, _/_, _^_, _≤_}
 use mathlib.Core.Path.{_≡_, refl, ap}
+use mathlib.Core.Bool.{true}
 use mathlib.Core.List.{List}
 use native.Mathlib.Omega.{arith}
+use borrow.Author.Tests.{eqb-true}
 use lib.ListN.{length}
 use Rattle.geometry.specs.declared.units.RecordNumber.{RecordNumber}
 use Rattle.geometry.specs.declared.units.EntryNumber.{EntryNumber}
 use Rattle.geometry.specs.Units.{entriesBefore}
+use Rattle.geometry.specs.Growth.{totalOf}
+use Rattle.geometry.proofs.Slots.{slot-begins}
 use Rattle.descriptor.specs.declared.numbers.DescriptorNumbers.{DescriptorNumbers}
+use Rattle.descriptor.specs.FirstRecord.{growthIn}
 use Rattle.descriptor.specs.Bounds.{Admitted}
 use Rattle.pieces.specs.EntryDescriptor.{wordOffset}
 use Rattle.layout.specs.EntryWords.{firstContent}
 use Rattle.entry.specs.Opening.{slotPositionOf}
-use Rattle.entry.proofs.Entering.{slot-inside}
+use Rattle.entry.proofs.Entering.{slot-inside, slot-low}
 use Rattle.storing.specs.Handed.{Handed, sumOf, nsecIn, ldataIn, nwordIn}
-use Rattle.placing.specs.Placing.{entryStart, numbersAfter, addressesAfter}
+use Rattle.placing.specs.Placing.{full, newStart, entryStart, numbersAfter, addressesAfter}
 use Rattle.storing.specs.Writing.{behind, headFrom, headOf}
 use Rattle.storing.specs.Bounds.{Fitting, Accepted}
-use Rattle.placing.proofs.Kept.{kept}
+use Rattle.placing.proofs.Kept.{kept, nex-full, address-new, free-after}
 
 -- ---- the numbers of what is handed in
 
@@ -85,16 +90,23 @@ module _ (bytes : ℕ) (d : DescriptorNumbers) (addresses : List RecordNumber) (
   abbrev pub slotThen : ℕ
   slotThen = slotPositionOf after addressesThen (d .xnext)
 
-  lind-same : after .lind ≡ d .lind
+  -- behind the first record
+  pub slot-first : d .reclen ≤ slotThen
   unfolding numbersAfter
-  lind-same = refl
+  slot-first = slot-low bytes after addressesThen admitted-after (d .xnext) (x .admitted .counted) (omega (arith, number-last))
 
-  -- its index ends within the bytes lent
-  pub slot-within : slotThen + d .lind ≤ bytes / 4
-  slot-within =
-      omega (
-        arith,
-        lind-same,
-        admitted-after .room,
-        slot-inside bytes after addressesThen admitted-after (d .xnext) (x .admitted .counted) (omega (arith, number-last)),
-      )
+  -- and before the entry: it is where it would be if the file ended where the entry starts
+  pub slot-last : slotThen + d .lind ≤ entryStart d
+  unfolding numbersAfter slotPositionOf
+  slot-last =
+      let a = kept bytes d addresses (x .admitted) (x .extensible) (entryStart d) (omega arith) (omega (arith, x .inside)) in
+      let free = free-after bytes d addresses (x .admitted) (x .extensible) (entryStart d) (omega arith) (omega (arith, x .inside)) in
+      omega (arith, slot-inside bytes (numbersAfter d (entryStart d)) addressesThen a (d .xnext) (x .admitted .counted) (omega arith))
+
+  -- in a new area it is slot 1
+  pub slot-new : full d ≡ true → slotThen ≡ newStart d
+  unfolding full slotPositionOf numbersAfter
+  slot-new q =
+      let all = eqb-true (entriesBefore (d .xnext)) (totalOf (growthIn d) (d .nex)) q in
+      let first = slot-begins (growthIn d) (d .nex) (d .lind) (d .xnext) (omega (arith, all, x .admitted .counted)) in
+      rw (nex-full d q, first, address-new bytes d addresses (x .admitted) (x .extensible) q) (omega arith)

@@ -1,11 +1,10 @@
--- What an accepted append at its place gives to each step of storing, and that the steps leave the file after an accepted append. Assumes nothing.
+-- What an accepted append at its place gives to each step of storing. Assumes nothing.
 use Prim.Native.Nat.{ℕ, _+_, _*_, _-_, _^_, _≤_, _<_}
 use mathlib.Core.Path.{_≡_, sym, ap, _∙_}
 use mathlib.Core.List.{List}
 use native.Mathlib.Omega.{arith}
 use lib.IntN.{ℤ}
 use lib.ListN.{length}
-use Rattle.image.specs.Image.{splice}
 use Rattle.geometry.specs.declared.units.RecordNumber.{RecordNumber}
 use Rattle.geometry.specs.declared.units.EntryAddress.{EntryAddress}
 use Rattle.geometry.specs.Units.{entriesBefore, placeOf}
@@ -19,9 +18,9 @@ use Rattle.placing.specs.Placing.{full, entryStart, numbersAfter}
 use Rattle.placing.specs.Placement.{placedAt}
 use Rattle.storing.specs.declared.head.Head.{Head}
 use Rattle.storing.specs.Handed.{Handed, handedIn, nsecIn, nwordIn}
-use Rattle.storing.specs.Writing.{headFrom, headOf, indexPut, areaWritten, descriptorPut, storedAt, entryWritten, indexWritten, appended}
+use Rattle.storing.specs.Writing.{headOf}
 use Rattle.storing.specs.Bounds.{Describing, Accepted, Storing}
-use Rattle.storing.proofs.Accepting.{head-version, head-nsec, value-bytes, data-next, entry-within, entry-small, admitted-after, number-last}
+use Rattle.storing.proofs.Accepting.{head-version, head-nsec, value-bytes, entry-within, entry-small, admitted-after, number-last}
 
 module _ (bytes : ℕ) (d : DescriptorNumbers) (placed : Placement) (head : Head) (h : Handed) (q : Storing bytes d placed head h) where
   abbrev x : Accepted bytes d (q .addresses) h
@@ -104,14 +103,3 @@ storing bytes d addresses placed head h x e f =
     let same = ap (λ (r : Head). r .version) f ∙ head-version h (d .xnext) in
     let with : ℤ → Handed = λ (v : ℤ). handedIn v (h .index) (h .ids) (h .lengths) (h .sections) (h .values) in
     record { addresses = addresses; accepted = rw same x; stands = e; headed = f ∙ ap (λ (v : ℤ). headOf (with v) (d .xnext)) (sym same) }
-
--- the steps leave the file after an accepted append
-pub stored-appended : (file : List ℕ) (d : DescriptorNumbers) (addresses : List RecordNumber) (h : Handed) → Accepted (length file) d addresses h
-    → storedAt file d (placedAt d addresses (nwordIn h)) (headOf h (d .xnext)) (versioned h (headOf h (d .xnext))) ≡ appended file d addresses h
-unfolding storedAt appended indexWritten entryWritten headFrom
-stored-appended file d addresses h x =
-    let start = entryStart d in
-    let first = firstContent (nsecIn h) in
-    let p = placedAt d addresses (nwordIn h) in
-    let described = splice (descriptorPut (d .order) (areaWritten file d) start (headOf h (d .xnext)) (h .ids) (h .lengths)) (wordOffset start first) (h .sections) in
-    ap (λ (at : ℕ). indexPut (splice described at (h .values)) (p .numbers) (p .addresses) (d .xnext) (placeOf (d .reclen) start) (h .index)) (sym (data-next d h (x .fitting) start))

@@ -1,7 +1,7 @@
 -- Laws of the three tables of an entry as bytes, and of a loop that writes one. Assumes nothing.
-use mathlib.Core.Path.{_≡_, refl, sym, ap, _∙_}
+use mathlib.Core.Path.{_≡_, refl, sym, ap, subst, _∙_}
 use mathlib.Core.List.{List, [], _∷_, _++_, append-assoc, append-nil}
-use Prim.Native.Nat.{ℕ, _+_, _*_, _≤_, _<_}
+use Prim.Native.Nat.{ℕ, zero, suc, _+_, _*_, _≤_, _<_}
 use native.Mathlib.Omega.{arith}
 use native.Mathlib.Nat.{mul-suc}
 use native.Mathlib.Numerals.{add-one}
@@ -10,7 +10,8 @@ use lib.ListN.{length, getD, take, length-append}
 use lib.Seq.{take-suc, take-all, length-take-le}
 use mir.Syntax.{Width}
 use mir.Val.{bytes as width}
-use Rattle.image.specs.Image.{splice}
+use Rattle.image.specs.Image.{part, splice}
+use Rattle.image.proofs.Part.{part-left, part-right, part-all}
 use Rattle.image.proofs.Splice.{splice-nil, splice-adjacent}
 use Rattle.words.specs.declared.byte_order.ByteOrder.{ByteOrder}
 use Rattle.words.specs.Word.{integer4, integer8, numeral, signedNumeral}
@@ -72,6 +73,22 @@ module _ {width : ℕ} {item : ℕ → ℤ → List ℕ} {bytes : ℕ → List �
   -- and it ends with the whole table
   pub passed-all : (image : List ℕ) (at a : ℕ) (zs : List ℤ) (k : ℕ) (now : List ℕ) → length zs ≤ k → Passed image at a zs k now → now ≡ splice image at (bytes a zs)
   passed-all image at a zs k now h p = rw (take-all k zs h) at (p .2)
+
+  -- element k stands behind the k before it
+  pub table-item : (a : ℕ) (zs : List ℤ) (k : ℕ) → k < length zs → part (bytes a zs) (width * k) width ≡ item (a + sumOf (take k zs)) (getD zs k (pos 0))
+  table-item a [] k h = absurd (omega arith)
+  table-item a (z ∷ zs) zero h =
+      let w = t .wide a z in
+      let o : width * 0 ≡ 0 = omega arith in
+      let s : a + 0 ≡ a = omega arith in
+      rw (t .more a z zs, o, s)
+      (part-left (item a z) (bytes (a + wordsOf z) zs) 0 width (omega (arith, w))
+      ∙ subst (λ (n : ℕ). part (item a z) 0 n ≡ item a z) w (part-all (item a z)))
+  table-item a (z ∷ zs) (suc k) h =
+      let s : a + (wordsOf z + sumOf (take k zs)) ≡ a + wordsOf z + sumOf (take k zs) = omega arith in
+      rw (t .more a z zs, s)
+      (part-right (item a z) (bytes (a + wordsOf z) zs) (width * suc k) (width * k) width (rw (t .wide a z, mul-suc) (omega arith))
+      ∙ table-item (a + wordsOf z) zs k (omega arith))
 
 -- the table of identifiers, and that of lengths
 pub integer-table : (o : ByteOrder) (w : Width) → Table (width w) (λ a z. signedNumeral o w z) (λ a zs. integerBytes o w zs)

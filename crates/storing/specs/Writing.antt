@@ -1,4 +1,5 @@
--- What an accepted append writes, step by step as 01 has it, integers in the file's order: the new area with nex and its address, the entry, its index, and how far the file is filled.
+-- What an accepted append writes, step by step as 01 has it, integers in the file's order: the new area with nex and its address, the entry, its index, and how far the file is filled. The
+-- writes by which the program leaves this file are in AsMade.antt.
 use Prim.Native.Nat.{ℕ, _+_, _-_}
 use mathlib.Core.Bool.{cond}
 use mathlib.Core.List.{List, [], _∷_, _++_}
@@ -6,7 +7,7 @@ use lib.Dec.{eqb}
 use lib.IntN.{ℤ}
 use lib.ListN.{length}
 use mir.Syntax.{Width}
-use Rattle.image.specs.Image.{splice, zeros}
+use Rattle.image.specs.Image.{zeros}
 use Rattle.image.specs.Writes.{Write, put, writes}
 use Rattle.words.specs.declared.byte_order.ByteOrder.{ByteOrder}
 use Rattle.words.specs.Word.{numeral, integer4, integer8, signedNumeral}
@@ -21,7 +22,6 @@ use Rattle.descriptor.specs.declared.numbers.DescriptorNumbers.{DescriptorNumbe
 use Rattle.descriptor.specs.FirstRecord.{freeOf}
 use Rattle.pieces.specs.EntryDescriptor.{wordOffset}
 use Rattle.entry.specs.Opening.{slotPositionOf}
-use Rattle.placing.specs.declared.placement.Placement.{Placement}
 use Rattle.storing.specs.declared.head.Head.{Head}
 use Rattle.fields.specs.FieldWrites.{field, countWrites}
 use Rattle.storing.specs.Handed.{Handed, wordsOf, sumOf, nsecIn, ldataIn, nwordIn}
@@ -112,27 +112,14 @@ slotWrites o slot place index =
 unfoldable pub areaWritten : List ℕ → DescriptorNumbers → List ℕ
 areaWritten file d = cond (full d) (writes file (areaWrites d)) file
 
--- the steps behind it: the descriptor of an entry that starts at a position
+-- the file with the descriptor of an entry that starts at a position
 abbrev pub descriptorPut : ByteOrder → List ℕ → ℕ → Head → List ℤ → List ℤ → List ℕ
 descriptorPut o file start head ids lengths = writes (writes file (headWrites o start head)) (tableWrites o start ids lengths)
 
--- its sections from a word of it on, and its data behind them
-abbrev pub contentPut : List ℕ → ℕ → EntryAddress → List ℕ → List ℕ → List ℕ
-contentPut file start first sections values =
-    splice (splice file (wordOffset start first) sections) (wordOffset start first + length sections) values
-
--- its index, by its number, and how far the file is filled after it
+-- with its index, by its number, and how far the file is filled after it
 abbrev pub indexPut : List ℕ → DescriptorNumbers → List RecordNumber → EntryNumber → Place → List ℕ → List ℕ
 indexPut file after addresses number place index =
     writes (writes file (slotWrites (after .order) (slotPositionOf after addresses number) place index)) (countWrites after)
-
--- the file after all of them, for an entry with this head at its place
-unfoldable pub storedAt : List ℕ → DescriptorNumbers → Placement → Head → Handed → List ℕ
-storedAt file d placed head h =
-    let start = placed .start in
-    let described = descriptorPut (d .order) (areaWritten file d) start head (h .ids) (h .lengths) in
-    let filled = contentPut described start (firstContent (head .nsec)) (h .sections) (h .values) in
-    indexPut filled (placed .numbers) (placed .addresses) (d .xnext) (placeOf (d .reclen) start) (h .index)
 
 -- the file after the entry
 unfoldable pub entryWritten : List ℕ → DescriptorNumbers → Handed → List ℕ

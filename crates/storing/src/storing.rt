@@ -1,20 +1,22 @@
 // Storing an accepted append at its place.
+use super::area::put_rest;
 use super::head::Head;
-use super::steps::put_area;
 use super::steps::put_content;
 use super::steps::put_descriptor;
 use super::steps::put_index;
 use descriptor::DescriptorNumbers;
+use fields::put_counts;
 use geometry::place_at;
 use layout::entry_descriptor::first_content;
 use placing::Placement;
 ghost use lib.ListN.{length};
 ghost use Rattle.outcome.specs.Outcome.{Leaves};
+ghost use Rattle.image.specs.Writes.{writes};
 ghost use Rattle.storing.specs.Handed.{handedIn, handed};
-ghost use Rattle.storing.specs.Writing.{storedAt};
+ghost use Rattle.storing.specs.AsMade.{storeWrites};
 ghost use Rattle.storing.specs.Bounds.{Storing};
 
-// Writes an entry with this head at its place, and all that comes with it.
+// Writes an entry with this head at its place, and all that comes with it; no word of the file twice.
 pub fn store(
     file: &mut [u8],
     d: DescriptorNumbers,
@@ -27,9 +29,8 @@ pub fn store(
     values: &[u8],
 )
     requires { ⌜ Storing (length (now file)) d placed head (handedIn (head .version) (now index) (now ids) (now lengths) (now sections) (now values)) ⌝ }
-    ensures { λ _. ⌜ Leaves (storedAt (now (file .entry)) d placed head (handed (head .version) index ids lengths sections values)) (now (file .exit)) ⌝ }
+    ensures { λ _. ⌜ Leaves (writes (now (file .entry)) (storeWrites d placed head (handed (head .version) index ids lengths sections values))) (now (file .exit)) ⌝ }
 {
-    put_area(file, d, placed.extends, placed.start);
     put_descriptor(d.order, file, placed.start, head, ids, lengths);
     put_content(
         file,
@@ -48,4 +49,6 @@ pub fn store(
         place_at(d.reclen, placed.start),
         index,
     );
+    put_rest(file, d, placed.extends, placed.start);
+    put_counts(file, numbers);
 }

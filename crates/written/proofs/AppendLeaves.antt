@@ -21,17 +21,17 @@ use Rattle.descriptor.specs.Bounds.{Admitted}
 use Rattle.descriptor.proofs.Admitting.{first-free}
 use Rattle.descriptor.proofs.Fitting.{fit-reach}
 use Rattle.entry.specs.Opening.{slotPositionOf}
-use Rattle.entry.proofs.Entering.{slot-in-use, slot-inside, slot-low}
+use Rattle.entry.proofs.Entering.{slot-in-use}
 use Rattle.storing.specs.Handed.{Handed, nwordIn}
 use Rattle.placing.specs.Placing.{full, entryStart, nexAfter, numbersAfter, addressesAfter}
 use Rattle.fields.specs.FieldWrites.{countWrites}
 use Rattle.storing.specs.Writing.{areaWrites, slotWrites, areaWritten, entryWritten, indexWritten, appended}
 use Rattle.storing.specs.Bounds.{Accepted}
 use Rattle.placing.proofs.Places.{new-low, start-low}
-use Rattle.placing.proofs.Kept.{kept, nex-full, nex-kept, addresses-kept, address-new, area-ends-after, free-after}
+use Rattle.placing.proofs.Kept.{nex-full, nex-kept, addresses-kept, address-new, area-ends-after, free-after}
 use Rattle.placing.proofs.AreasAgree.{after-same, after-agree}
 use Rattle.written.proofs.Cases.{by-last}
-use Rattle.storing.proofs.Accepting.{after, admitted-after, slotThen, entry-within, entry-small}
+use Rattle.storing.proofs.Accepting.{after, admitted-after, slotThen, slot-first, slot-last, entry-within, entry-small}
 
 -- a new area keeps the length of the file
 pub length-area : (file : List ℕ) (d : DescriptorNumbers) → length (areaWritten file d) ≡ length file
@@ -102,14 +102,6 @@ module _ (file : List ℕ) {d : DescriptorNumbers} {addresses : List RecordNumbe
     pub slot-first : d .reclen ≤ slot
     pub slot-last : slot + d .lind ≤ entryStart d
 
-  -- the slot is where it would be if the file ended where the entry starts
-  slot-before : slot + d .lind ≤ entryStart d
-  unfolding numbersAfter slotPositionOf
-  slot-before =
-      let a = kept (length file) d addresses (x .admitted) (x .extensible) (entryStart d) (omega arith) (omega (arith, x .inside)) in
-      let free = free-after (length file) d addresses (x .admitted) (x .extensible) (entryStart d) (omega arith) (omega (arith, x .inside)) in
-      omega (arith, slot-inside (length file) (numbersAfter d (entryStart d)) (addressesAfter d addresses) a (d .xnext) (x .admitted .counted) (omega arith))
-
   -- and that it does
   pub left : Left
   unfolding numbersAfter
@@ -132,8 +124,8 @@ module _ (file : List ℕ) {d : DescriptorNumbers} {addresses : List RecordNumbe
         free = free-after (length file) d addresses (x .admitted) (x .extensible) end (omega arith) (x .inside);
         within = entry-within (length file) d addresses h x;
         small = entry-small (length file) d addresses h x;
-        slot-first = slot-low (length file) then areasThen a (d .xnext) (x .admitted .counted) (omega arith);
-        slot-last = slot-before;
+        slot-first = slot-first (length file) d addresses h x;
+        slot-last = slot-last (length file) d addresses h x;
       }
 
   -- ---- the entries and the areas that were there

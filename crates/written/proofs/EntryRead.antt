@@ -35,11 +35,11 @@ use Rattle.placing.specs.Placing.{entryStart}
 use Rattle.storing.specs.Writing.{behind, headFrom, headOf, areaWritten, entryWritten}
 use Rattle.storing.specs.Bounds.{Accepted}
 use Rattle.storing.proofs.Lengths.{positive-run}
-use Rattle.storing.proofs.TableBytes.{Table, table-length, integer-table, address-table}
+use Rattle.storing.proofs.TableBytes.{Table, table-length, table-item, integer-table, address-table}
 use Rattle.storing.proofs.Lengths.{sum-next, sum-fewer, counted}
 use Rattle.storing.proofs.Accepting.{value-bytes}
+use Rattle.storing.proofs.Stretches.{entryWrites, entry-stretch}
 use Rattle.written.proofs.AppendLeaves.{new, end, left, length-area}
-use Rattle.written.proofs.Stored.{table-item, entryWrites, entry-follows, entry-one}
 use Rattle.written.proofs.Frame.{entry-left}
 use Rattle.written.proofs.FirstRecordAfter.{order-new}
 
@@ -57,14 +57,13 @@ module _ (file : List ℕ) {d : DescriptorNumbers} {addresses : List RecordNumbe
   unfolding entryWritten
   same a n l =
       entry-left file x a n (inr (omega (arith, left file x, x .admitted .settled .reclen-low))) (inr (omega (arith, left file x)))
-      ∙ ap (λ (f : List ℕ). part f a n) (entry-one (d .order) start h (d .xnext) (areaWritten file d))
 
   -- what the write behind k others wrote
   read : (k : ℕ) (a : EntryAddress) (ys : List ℕ) → BehindOf k (put (wordOffset start a) ys) ws → wordOffset start a + length ys ≤ 4 * end file x
       → part (new file x) (wordOffset start a) (length ys) ≡ ys
   read k a ys e l =
       same (wordOffset start a) (length ys) (omega arith)
-      ∙ follow-read (areaWritten file d) (4 * start) ws (entry-follows (d .order) start h (d .xnext) (x .fitting .pairs) (x .fitting .sections)) k (wordOffset start a) ys e
+      ∙ follow-read (areaWritten file d) (4 * start) ws (entry-stretch (d .order) start h (d .xnext) d (x .fitting) .0) k (wordOffset start a) ys e
       (omega (arith, left file x, length-area file d))
 
   -- a part of it

@@ -9,8 +9,8 @@ use lib.ListN.{length, set, take, drop}
 use mir.Syntax.{Width, w32, w64}
 use mir.Val.{bits, bytes}
 use Rattle.image.specs.Image.{part, allZero}
-use Rattle.image.specs.Writes.{Write, put, writes, Follows, Apart}
-use Rattle.image.proofs.Writes.{writes-read, BehindOf}
+use Rattle.image.specs.Writes.{Write, put, writes, Apart}
+use Rattle.image.proofs.Writes.{Beside, writes-read, BehindOf}
 use Rattle.image.proofs.Zeros.{zero-within}
 use Rattle.words.specs.declared.byte_order.ByteOrder.{ByteOrder}
 use Rattle.words.specs.Word.{numeral, bitsAt}
@@ -30,11 +30,12 @@ use Rattle.placing.specs.Placing.{full, newArea, nexAfter, numbersAfter, addres
 use Rattle.fields.specs.FieldWrites.{countWrites}
 use Rattle.storing.specs.Writing.{areaWrites, areaWritten}
 use Rattle.storing.specs.Bounds.{Accepted}
+use Rattle.storing.proofs.Stretches.{count-stretch}
 use Rattle.placing.proofs.Places.{nex-more, new-small}
 use Rattle.outcome.proofs.Either.{either}
 use Rattle.placing.proofs.Kept.{nex-full, nex-kept}
 use Rattle.written.proofs.AppendLeaves.{new, then, areasThen, indexed, counted-last, left}
-use Rattle.written.proofs.Frame.{Beside, area-left, frame}
+use Rattle.written.proofs.Frame.{area-left, frame}
 use Rattle.descriptor.proofs.Admitting.{free-small, xnext-small}
 
 module _ (file : List ℕ) {d : DescriptorNumbers} {addresses : List RecordNumber} {h : Handed} (x : Accepted (length file) d addresses h) where
@@ -92,10 +93,7 @@ module _ (file : List ℕ) {d : DescriptorNumbers} {addresses : List RecordNumbe
     count-read : (w : Width) (k at u : ℕ) → BehindOf k (put at (numeral (d .order) (bytes w) u)) (countWrites (then file x)) → u < 2 ^ bits w → at + bytes w ≤ 64 → bitsAt (byteOrderOf (new file x)) w (new file x) at ≡ u
     count-read w k at u e f l =
         ap (λ (p : ByteOrder). bitsAt p w (new file x) at) order-new
-        ∙ ap (λ (g : List ℕ). bitsAt (d .order) w g at) (counted-last file x) ∙ bits-follow (d .order) w (indexed file x) 24 (countWrites (then file x)) follows k at u e f (omega (arith, left file x .size-indexed, words))
-      where
-        follows : Follows 24 (countWrites (then file x))
-        follows = simp length-numeral (omega arith)
+        ∙ ap (λ (g : List ℕ). bitsAt (d .order) w g at) (counted-last file x) ∙ bits-follow (d .order) w (indexed file x) 24 (countWrites (then file x)) (count-stretch (then file x) .0) k at u e f (omega (arith, left file x .size-indexed, words))
 
     -- a number that a new area writes, behind us and before vs
     area-read : full d ≡ true → (w : Width) (at u : ℕ) (us vs : List Write) → us ++ (put at (numeral (d .order) (bytes w) u) ∷ vs) ≡ areaWrites d → Apart at (length (numeral (d .order) (bytes w) u)) vs

@@ -8,10 +8,10 @@ use mathlib.Core.List.{List, [], _∷_}
 use native.Mathlib.Omega.{arith}
 use lib.ListN.{length, length-append}
 use Rattle.image.specs.Image.{part, splice, zeros}
-use Rattle.image.specs.Writes.{Write, put, writes, written, Follows}
+use Rattle.image.specs.Writes.{writes}
 use Rattle.image.proofs.Part.{part-within}
 use Rattle.image.proofs.Splice.{length-zeros}
-use Rattle.image.proofs.Writes.{writes-one, writes-keep}
+use Rattle.image.proofs.Writes.{Beside, beside-part, stretch-keep, writes-keep}
 use Rattle.words.specs.declared.byte_order.ByteOrder.{ByteOrder}
 use Rattle.words.specs.Word.{numeral}
 use Rattle.words.proofs.Number.{length-numeral}
@@ -26,47 +26,27 @@ use Rattle.placing.specs.Placing.{full, newArea, entryStart}
 use Rattle.fields.specs.FieldWrites.{field, countWrites}
 use Rattle.storing.specs.Writing.{areaWrites, slotWrites, areaWritten, entryWritten}
 use Rattle.storing.specs.Bounds.{Fitting, Accepted}
-use Rattle.storing.proofs.TableBytes.{length-identifierBytes, length-lengthBytes, length-addressBytes}
+use Rattle.storing.proofs.Stretches.{entryWrites, entry-stretch, slot-stretch, count-stretch}
 use Rattle.placing.proofs.Places.{nex-more}
-use Rattle.storing.proofs.Accepting.{value-bytes}
 use Rattle.written.proofs.AppendLeaves.{new, then, slot, indexed, counted-last, left}
-use Rattle.written.proofs.Stored.{entryWrites, entry-follows, entry-one}
-
--- the n bytes from offset a on, and m bytes from b on, share none
-abbrev pub Beside : ℕ → ℕ → ℕ → ℕ → Type 0
-Beside a n b m = (a + n ≤ b) ⊎ (b + m ≤ a)
-
--- bytes beside a run of bytes are beside each part of it
-pub beside-part : (a n b m c k : ℕ) → Beside a n b m → b ≤ c → c + k ≤ b + m → Beside a n c k
-beside-part a n b m c k (inl h) l g = inl (omega arith)
-beside-part a n b m c k (inr h) l g = inr (omega arith)
-
--- bytes beside writes that follow one another stay
-pub follow-keep : (a n : ℕ) (image : List ℕ) (b m : ℕ) (ws : List Write) → Follows b ws → length (written ws) ≡ m → Beside a n b m → part (writes image ws) a n ≡ part image a n
-follow-keep a n image b m ws f e h = ap (λ (l : List ℕ). part l a n) (writes-one image b ws f) ∙ writes-keep image (put b (written ws) ∷ []) a n (rw e h, tt)
 
 -- ---- each write of an append
 
 module _ (a n : ℕ) where
   -- the counts change words 7 to 11 of the first record
   pub counts-keep : (file : List ℕ) (d : DescriptorNumbers) → Beside a n 24 20 → part (writes file (countWrites d)) a n ≡ part file a n
-  counts-keep file d = follow-keep a n file 24 20 (countWrites d) (simp length-numeral (omega arith)) (simp (length-append, length-numeral) (omega arith))
+  counts-keep file d = stretch-keep a n file 24 20 (countWrites d) (count-stretch d)
 
   -- the index changes its slot of lind words
   slot-keep : (o : ByteOrder) (file : List ℕ) (slot lind : ℕ) (place : Place) (index : List ℕ) → 3 ≤ lind → length index ≡ 4 * (lind - 3)
       → Beside a n (4 * slot) (4 * lind) → part (writes file (slotWrites o slot place index)) a n ≡ part file a n
-  slot-keep o file slot lind place index low e =
-      follow-keep a n file (4 * slot) (4 * lind) (slotWrites o slot place index) (simp length-numeral (omega arith)) (simp (length-append, length-numeral) (omega arith))
+  slot-keep o file slot lind place index low e = stretch-keep a n file (4 * slot) (4 * lind) (slotWrites o slot place index) (slot-stretch o slot lind place index low e)
 
   module _ (file : List ℕ) (d : DescriptorNumbers) where
     -- the entry changes its nword words
     entry-keep : (h : Handed) → Fitting d h → Beside a n (4 * entryStart d) (4 * nwordIn h) → part (entryWritten file d h) a n ≡ part file a n
     unfolding entryWritten
-    entry-keep h f b =
-        let start = entryStart d in
-        ap (λ (g : List ℕ). part g a n) (entry-one (d .order) start h (d .xnext) file)
-        ∙ follow-keep a n file (4 * start) (4 * nwordIn h) (entryWrites (d .order) start h (d .xnext)) (entry-follows (d .order) start h (d .xnext) (f .pairs) (f .sections))
-        (simp (length-append, length-numeral, length-identifierBytes, length-lengthBytes, length-addressBytes) (omega (arith, f .pairs, f .sections, value-bytes d h f))) b
+    entry-keep h f = stretch-keep a n file (4 * entryStart d) (4 * nwordIn h) (entryWrites (d .order) (entryStart d) h (d .xnext)) (entry-stretch (d .order) (entryStart d) h (d .xnext) d f)
 
     -- a new area changes nex, its address, and the words from the next free position to the entry
     area-keep : Beside a n (4 * freeOf d) (4 * (entryStart d - freeOf d)) → (full d ≡ true → Beside a n 48 4 × Beside a n (56 + 8 * d .nex) 8)

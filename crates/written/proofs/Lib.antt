@@ -2,7 +2,6 @@
 -- again, and a created file.
 pub mod Cases
 pub mod AppendLeaves
-pub mod Stored
 pub mod Frame
 pub mod FirstRecordAfter
 pub mod ReadBack

@@ -1,4 +1,4 @@
--- `storing::steps::put_index` meets its contract: the slot, then the counts. Assumes nothing.
+-- `storing::steps::put_index` meets its contract. Assumes nothing.
 use mathlib.Core.Path.{_∙_}
 use Prim.Native.Nat.{_+_, _≤_}
 use native.Mathlib.Omega.{arith}
@@ -6,7 +6,6 @@ use borrow.Author.Needs.{needs}
 use Rattle.image.specs.Writes.{writes}
 use Rattle.descriptor.specs.FirstRecord.{freeOf}
 use Rattle.entry.proofs.Entering.{slot-inside}
-use Rattle.fields.specs.FieldWrites.{countWrites}
 use Rattle.storing.specs.Writing.{slotWrites}
 use Rattle.storing.proofs.steps.put_index.Statement.{statement}
 use Rattle.storing.proofs.steps.put_index.Tie as tie
@@ -25,22 +24,14 @@ put-slot-requires c κs =
     let h = s .pre .4 in
     (omega (arith, slot-before p, a .room, a .lent .high), omega (arith, s .pre .3), omega (arith, slot-before p, a .room, a .settled .lind-low, h))
 
-put-counts-requires : tie.Need-put-counts-requires
-put-counts-requires c κs =
-    let p = c .before .before .before in
-    let a = p .before .before .before .before .before .pre .0 in
-    (omega (arith, a .free .word-high, a .settled .reclen-high), omega (arith, a .lent .first, a .settled .reclen-low, p .put-slot .kept .1 .0))
-
 returns : tie.Need-returns
 returns c =
-    let counts = c .before .before in
-    let p = counts .before .before .before .before in
+    let p = c .before .before in
     let q = p .before .before in
     let a = q .before .before .before .args in
-    counts .put-counts .ensures
-    ∙ (λ i. writes ((p .put-slot .ensures ∙ (λ j. writes (a .file .now) (slotWrites (a .numbers .order) (q .slot-position .ensures j) (a .place) (a .index .now)))) i) (countWrites (a .numbers)))
+    p .put-slot .ensures ∙ (λ i. writes (a .file .now) (slotWrites (a .numbers .order) (q .slot-position .ensures i) (a .place) (a .index .now)))
 
 pub put-index-spec : {M : Type 1} → statement M
 put-index-spec =
     tie.close
-    (tie.spec (λ c κs. search needs) put-slot-requires put-counts-requires (λ c. search needs) returns)
+    (tie.spec (λ c κs. search needs) put-slot-requires (λ c. search needs) returns)

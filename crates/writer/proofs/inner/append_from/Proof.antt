@@ -5,16 +5,19 @@ use native.Mathlib.Omega.{arith}
 use borrow.Author.Needs.{needs}
 use lib.ListN.{length}
 use mir.Facts.{toZ-ofZ}
+use Rattle.image.specs.Writes.{writes}
 use Rattle.placing.specs.declared.placement.Placement.{Placement}
 use Rattle.placing.specs.Rules.{placementRefusal}
 use Rattle.placing.specs.Placement.{placedAt, placementOf}
 use Rattle.placing.proofs.Placed.{place-refusal, place-stands}
 use Rattle.storing.specs.declared.head.Head.{Head}
 use Rattle.storing.specs.Handed.{Handed, handedIn, nwordIn}
-use Rattle.storing.specs.Writing.{headOf, storedAt}
+use Rattle.storing.specs.Writing.{headOf}
+use Rattle.storing.specs.AsMade.{storeWrites}
 use Rattle.storing.specs.Bounds.{Fitting, Accepted}
 use Rattle.storing.proofs.Accepting.{head-nword, head-counted, section-words}
-use Rattle.storing.proofs.Stores.{versioned, storing, stored-appended}
+use Rattle.storing.proofs.Stores.{versioned, storing}
+use Rattle.storing.proofs.Made.{made-appended}
 use Rattle.writer.specs.Rules.{appendRefusal}
 use Rattle.writer.specs.Answers.{refusedFrom}
 use Rattle.writer.proofs.HandedIn.{refusalOf, fitting, accepted}
@@ -121,8 +124,8 @@ returns-3 c =
     let done = accepted-from (a .file .now) (a .d) (a .addresses) h (none e) in (
       (λ i. record { refusal = 0; number = a .d .xnext; numbers = stands e i .numbers; addresses = stands e i .addresses }) ∙ done .0,
       r .store .ensures
-          ∙ (λ i. storedAt (a .file .now) (a .d) (stands e i) (headed (p .before) i) (versioned h (headed (p .before) i)))
-          ∙ stored-appended (a .file .now) (a .d) (a .addresses) h (admits e)
+          ∙ (λ i. writes (a .file .now) (storeWrites (a .d) (stands e i) (headed (p .before) i) (versioned h (headed (p .before) i))))
+          ∙ made-appended _ (a .d) (a .addresses) h (admits e) (a .file .now)
           ∙ done .1,
     )
 

@@ -1,0 +1,126 @@
+/* Traces the stores that a call makes into a block of memory, on x86-64.
+
+   While a trace goes on the block cannot be written, so every instruction that stores into it stops at a signal. The
+   instruction is then made as a single step by the processor's trap flag, once over a block filled with one byte and
+   once over a block filled with another: what differs from either filling is what it stored, also where that is equal
+   to what stood there. The registers are as they were before the second step, so the two store the same, and the block
+   is put back with the stored bytes in it. Nothing is asked of the program that is traced. */
+#ifndef TRACER_H
+#define TRACER_H
+
+#define _GNU_SOURCE
+#include <signal.h>
+#include <stdint.h>
+#include <stdio.h>
+#include <stdlib.h>
+#include <string.h>
+#include <sys/mman.h>
+#include <ucontext.h>
+
+/* The block's size, whole pages on every machine; the most stores of a call; the two fillings. */
+enum { BLOCK = 65536, STORES = 65536, TRAP_FLAG = 0x100, FILLING = 0x5A, OTHER_FILLING = 0xA5 };
+
+/* Bytes that one instruction stored: the first, counted from the block's start, and how many. */
+typedef struct {
+    size_t start, length;
+} store;
+
+/* The block, and the stores into it in the order in which they were made. */
+static uint8_t *block;
+static store stores[STORES];
+static size_t store_count;
+
+/* What the tracer is at: an instruction that stores has not been met, or is being made for the first or second time. */
+static enum { WAITING, FIRST, SECOND } step;
+static uint8_t as_it_was[BLOCK], after_first[BLOCK];
+static gregset_t registers;
+
+/* Ends the program where the tracer cannot go on. */
+static void tracer_stops(const char *why) {
+    fprintf(stderr, "tracer: %s\n", why);
+    _Exit(2);
+}
+
+/* Lets the block be written or not. */
+static void guard(int may) {
+    if (mprotect(block, BLOCK, may) != 0) tracer_stops("mprotect does not work");
+}
+
+/* Fills the block, and has the instruction made as a single step. */
+static void make(ucontext_t *context, int filling) {
+    memset(block, filling, BLOCK);
+    memcpy(context->uc_mcontext.gregs, registers, sizeof registers);
+    context->uc_mcontext.gregs[REG_EFL] |= TRAP_FLAG;
+}
+
+/* An instruction is about to store into the block. */
+static void on_store(int number, siginfo_t *info, void *context) {
+    uint8_t *at = info->si_addr;
+    (void)number;
+    if (step != WAITING || at < block || at >= block + BLOCK) tracer_stops("an access outside of the lent memory");
+    guard(PROT_READ | PROT_WRITE);
+    memcpy(as_it_was, block, BLOCK);
+    memcpy(registers, ((ucontext_t *)context)->uc_mcontext.gregs, sizeof registers);
+    make(context, FILLING);
+    step = FIRST;
+}
+
+/* Notes what the instruction stored, and puts the block back with it. */
+static void note(void) {
+    size_t first = BLOCK, last = 0, i;
+    for (i = 0; i < BLOCK; i++) {
+        if (after_first[i] == FILLING && block[i] == OTHER_FILLING) continue;
+        if (after_first[i] != block[i]) tracer_stops("an instruction that reads what it writes");
+        if (first == BLOCK) first = i;
+        else if (last + 1 != i) tracer_stops("an instruction that stores in two places");
+        last = i;
+        as_it_was[i] = block[i];
+    }
+    if (first == BLOCK) tracer_stops("an instruction that stores nothing");
+    if (store_count == STORES) tracer_stops("too many stores");
+    stores[store_count].start = first;
+    stores[store_count++].length = last - first + 1;
+    memcpy(block, as_it_was, BLOCK);
+}
+
+/* The instruction was made. */
+static void on_step(int number, siginfo_t *info, void *context) {
+    (void)number, (void)info;
+    if (step == FIRST) {
+        memcpy(after_first, block, BLOCK);
+        make(context, OTHER_FILLING);
+        step = SECOND;
+    } else if (step == SECOND) {
+        note();
+        guard(PROT_READ);
+        ((ucontext_t *)context)->uc_mcontext.gregs[REG_EFL] &= ~(greg_t)TRAP_FLAG;
+        step = WAITING;
+    } else {
+        tracer_stops("a step that was not asked for");
+    }
+}
+
+/* Makes the block ready. */
+static void tracer_begin(void) {
+    struct sigaction action;
+    block = mmap(NULL, BLOCK, PROT_READ | PROT_WRITE, MAP_PRIVATE | MAP_ANONYMOUS, -1, 0);
+    if (block == MAP_FAILED) tracer_stops("mmap does not work");
+    memset(&action, 0, sizeof action);
+    action.sa_flags = SA_SIGINFO;
+    action.sa_sigaction = on_store;
+    if (sigaction(SIGSEGV, &action, NULL) != 0) tracer_stops("sigaction does not work");
+    action.sa_sigaction = on_step;
+    if (sigaction(SIGTRAP, &action, NULL) != 0) tracer_stops("sigaction does not work");
+}
+
+/* Begins a trace. */
+static void trace(void) {
+    store_count = 0;
+    step = WAITING;
+    guard(PROT_READ);
+}
+
+/* Ends it. */
+static void traced(void) { guard(PROT_READ | PROT_WRITE); }
+
+#endif
