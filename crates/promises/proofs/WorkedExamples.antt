@@ -85,7 +85,7 @@ request-examples =
     refl & refl & refl & refl & refl & refl & refl & refl & refl & refl &
     refl & refl & refl & refl & refl & refl & refl & refl &
     -- Q-6
-    refl & refl & refl & refl & refl & refl &
+    refl & refl & refl & refl &
     -- Q-7
     refl & refl & refl & refl & refl & refl & refl & refl & refl & refl & refl &
     refl & refl & refl & refl & refl & refl & refl & refl & refl & refl & refl &

@@ -2,8 +2,8 @@
 use Prim.Native.Nat.{ℕ, _+_, _*_, _%_, _≤_}
 use mathlib.Core.Path.{_≡_, sym, ap, _∙_}
 use mathlib.Core.Logic.{inl, inr}
-use mathlib.Core.Bool.{true, and-eq-true-iff, and-false}
-use mathlib.Core.List.{List, [], _∷_}
+use mathlib.Core.Bool.{false, and-eq-true-iff, and-false}
+use mathlib.Core.List.{List, [], _∷_, _++_}
 use native.Mathlib.Omega.{arith}
 use borrow.Author.Tests.{ltb-true, le-ltb}
 use lib.Dec.{ltb}
@@ -13,12 +13,18 @@ use Rattle.image.specs.Writes.{Write, put, writes, Apart, PairwiseApart}
 use Rattle.image.proofs.Splice.{length-zeros}
 use Rattle.image.proofs.Writes.{Beside}
 use Rattle.words.proofs.Number.{length-numeral}
+use Rattle.geometry.specs.Units.{placeOf}
 use Rattle.descriptor.specs.FirstRecord.{numbersOf, addressesOf}
 use Rattle.descriptor.specs.Rules.{fileRefusal}
-use Rattle.placing.specs.Placing.{full}
+use Rattle.layout.specs.EntryWords.{firstContent}
+use Rattle.placing.specs.Placing.{full, entryStart}
+use Rattle.fields.specs.FieldWrites.{countWrites}
 use Rattle.storing.specs.Handed.{Handed}
+use Rattle.storing.specs.Writing.{headOf, headWrites, tableWrites}
+use Rattle.storing.specs.AsMade.{piecesWrites, indexWrites, restWrites}
 use Rattle.storing.specs.Bounds.{Accepted}
 use Rattle.storing.proofs.TableBytes.{length-identifierBytes, length-lengthBytes, length-addressBytes}
+use Rattle.storing.proofs.Accepting.{after, addressesThen}
 use Rattle.storing.proofs.Made.{made-apart, made-appended}
 use Rattle.writer.specs.Rules.{appendRefusal}
 use Rattle.writer.specs.Answers.{appendOf, fileAfter}
@@ -33,11 +39,15 @@ abbrev Whole : List Write → Type 0
 Whole [] = Unit
 Whole (put at ys ∷ ws) = (at % 4 ≡ 0) × (length ys % 4 ≡ 0) × Whole ws
 
+whole-append : (us vs : List Write) → Whole us → Whole vs → Whole (us ++ vs)
+whole-append [] vs p q = q
+whole-append (put at ys ∷ us) vs p q = (p .0, p .1, whole-append us vs (p .2) q)
+
 module _ (word : ℕ) where
   -- writes apart from bytes that the word is among do not reach it
   never : (a n : ℕ) (ws : List Write) → a ≤ 4 * word → 4 * (word + 1) ≤ a + n → Apart a n ws → timesWritten word ws ≡ 0
   never a n [] low high p = omega arith
-  never a n (put at ys ∷ ws) low high p = rw (one (p .0)) (never a n ws low high (p .1))
+  never a n (put at ys ∷ ws) low high p = rw (one (p .0)) (omega (arith, never a n ws low high (p .1)))
     where
       one : Beside a n at (length ys) → reaches word at (length ys) ≡ false
       one (inl k) = rw (le-ltb at (4 * (word + 1)) (omega arith))
@@ -53,7 +63,7 @@ module _ (word : ℕ) where
       let low = ltb-true at (4 * (word + 1)) (r .0) in
       let high = ltb-true (4 * word) (at + length ys) (r .1) in
       rw q (omega (arith, never at (length ys) ws (omega (arith, low, w .0)) (omega (arith, high, w .0, w .1)) (p .0))))
-      (λ q. rw q (once ws (w .2) (p .1)))
+      (λ q. rw q (omega (arith, once ws (w .2) (p .1))))
 
 -- ---- those of an append
 
@@ -78,10 +88,16 @@ module _ (file : List ℕ) (h : Handed) (r : appendOf file h .refusal ≡ 0) whe
   -- each is of whole words
   whole : Whole (writesOf file h)
   whole =
+      let d = numbersOf file in
       let f = accepts .fitting in
-      either (full (numbersOf file))
-      (λ q. rw q (simp (length-numeral, length-identifierBytes, length-lengthBytes, length-addressBytes, length-zeros) (omega (arith, f .sections, f .whole, f .index))))
-      (λ q. rw q (simp (length-numeral, length-identifierBytes, length-lengthBytes, length-addressBytes) (omega (arith, f .sections, f .whole, f .index))))
+      let head = headOf h (d .xnext) in
+      let then = after _ _ _ h accepts in
+      let start = entryStart d in
+      whole-append (headWrites (d .order) start head) _ (simp length-numeral (omega arith))
+      (whole-append (tableWrites (d .order) start (h .ids) (h .lengths)) _ (simp (length-identifierBytes, length-lengthBytes, length-addressBytes) (omega arith))
+      (whole-append (piecesWrites start (firstContent (head .nsec)) (h .sections) (h .values)) _ (omega (arith, f .sections, f .whole))
+      (whole-append (indexWrites then (addressesThen _ _ _ h accepts) (d .xnext) (placeOf (d .reclen) start) (h .index)) _ (simp length-numeral (omega (arith, f .index)))
+      (whole-append (restWrites d) (countWrites then) (either (full d) (λ q. rw q (simp (length-zeros, length-numeral) (omega arith))) (λ q. rw q tt)) (simp length-numeral (omega arith))))))
 
   -- so no word of the file is written twice
   pub append-once : (word : ℕ) → timesWritten word (writesOf file h) ≤ 1

@@ -66,13 +66,9 @@ A = after3 6
 abbrev pub bigCreated : List ℕ
 bigCreated = createdFile (lent 6) (settingsIn (pos 1) 20 4 2 20)
 
--- after appends (1) and (2)
-abbrev pub bigAfter2 : List ℕ
-bigAfter2 = fileAfter (fileAfter bigCreated append1) append2
-
--- and after all three
+-- and after the three appends
 abbrev pub bigA : List ℕ
-bigA = fileAfter bigAfter2 append3
+bigA = fileAfter (fileAfter (fileAfter bigCreated append1) append2) append3
 
 -- the created file after another append, of two sections: identifiers 7 and 9 of 3 words and 1, no data
 abbrev pub twoSections : List ℕ

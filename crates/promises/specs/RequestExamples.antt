@@ -4,7 +4,7 @@ use mathlib.Core.List.{List, [], _∷_, _++_, map}
 use lib.IntN.{ℤ, pos, negℤ}
 use lib.ListN.{length}
 use Rattle.image.specs.Image.{splice}
-use Rattle.image.specs.Writes.{Write, put, writes}
+use Rattle.image.specs.Writes.{Write, put}
 use Rattle.geometry.specs.declared.units.RecordNumber.{RecordNumber}
 use Rattle.geometry.specs.Units.{offsetOf}
 use Rattle.geometry.specs.Growth.{growthOf, capacityOf}
@@ -19,7 +19,7 @@ use Rattle.writer.specs.Answers.{appendOf, fileAfter}
 use Rattle.promises.specs.Contents.{numbersIn, openedIn}
 use Rattle.promises.specs.Calls.{following}
 use Rattle.promises.specs.WrittenOnce.{writesOf, timesWritten}
-use Rattle.promises.specs.FileA.{settingsIn, settings, lent, append1, append2, append3, created, after1, after2, A, bigAfter2, bigA}
+use Rattle.promises.specs.FileA.{settingsIn, settings, lent, append1, append2, append3, created, after1, after2, A, bigA}
 use Rattle.promises.specs.ByHand.{wordsAt, little, big, firstRecord, entryHead, slot}
 use Rattle.promises.specs.Examples.{Row, entry, aex, at, identifierFirst, opensAt, filled, numbersRefusal, imageWith}
 use Rattle.promises.specs.Examples.Row.{Q}
@@ -159,9 +159,6 @@ requestExamples =
     (headPlaces 100 ++ (111, 0) ∷ (111, 0) ∷ (111, 0) ∷ (111, 0) ∷ (111, 0) ∷ slotPlaces 80 ++ (75, 5) ∷ (84, 16) ∷ (12, 1) ∷ (16, 2) ∷ countPlaces) ∷
     -- so of the words about the new area, from the last of entry 2 to the first free one, each that is written is written once
     Q 6 (map (λ w. timesWritten w (writesOf (after2 6) append3)) (74 ∷ 75 ∷ 79 ∷ 80 ∷ 83 ∷ 84 ∷ 99 ∷ 100 ∷ 110 ∷ 111 ∷ [])) (0 ∷ 1 ∷ 1 ∷ 1 ∷ 1 ∷ 1 ∷ 1 ∷ 1 ∷ 1 ∷ 0 ∷ []) ∷
-    -- and these writes make A, in either order
-    Q 6 (writes (after2 6) (writesOf (after2 6) append3)) A ∷
-    Q 6 (writes bigAfter2 (writesOf bigAfter2 append3)) bigA ∷
     -- A has its addresses in words 15 to 18: words 19 and 20 are zero, and word 21 is the first of record 2
     Q 7 (fileRefusal A) 0 ∷
     Q 7 (fileRefusal (leftIn 19 A)) 29 ∷

@@ -65,7 +65,7 @@ returns c =
     let s = began t in
     let d = s .args .d in
     let cleared = around .clear-around .ensures
-        ∙ (λ i. writes (s .args .file .now) (clearAround (around .before .free-position .ensures i) (here at i) (d .lind) (s .pre .5 i))) in
+    ∙ (λ i. writes (s .args .file .now) (clearAround (around .before .free-position .ensures i) (here at i) (d .lind) (s .pre .5 i))) in
     rw (extended t) (p .put-extension .ensures ∙ ap (λ l. writes l (extensionWrites d)) cleared)
 
 returns-2 : tie.Need-returns-2

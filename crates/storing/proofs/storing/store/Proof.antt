@@ -74,9 +74,17 @@ put-rest-requires : tie.Need-put-rest-requires
 put-rest-requires c κs =
     let p = c .before .before .before in
     let q = first p .pre in
-    let a = q .accepted .admitted in
-    (a .settled, a .free, free-small _ _ _ a, extends-placed _ _ _ _ _ q, q .accepted .extensible, start-placed _ _ _ _ _ q,
-    omega (arith, start-small _ _ _ _ _ q), omega (arith, start-inside _ _ _ _ _ q, after-index p), omega (arith, a .lent .first, after-index p))
+    let a = q .accepted .admitted in (
+      a .settled,
+      a .free,
+      free-small _ _ _ a,
+      extends-placed _ _ _ _ _ q,
+      q .accepted .extensible,
+      start-placed _ _ _ _ _ q,
+      omega (arith, start-small _ _ _ _ _ q),
+      omega (arith, start-inside _ _ _ _ _ q, after-index p),
+      omega (arith, a .lent .first, after-index p),
+    )
 
 put-counts-requires : tie.Need-put-counts-requires
 put-counts-requires c κs =
@@ -98,7 +106,7 @@ returns c =
     let d = a .d in
     let p = a .placed in
     let filled = content .put-content .ensures
-        ∙ (λ i. writes (described .put-descriptor .ensures i) (piecesWrites (p .start) (content .before .first-content .ensures i) (a .sections .now) (a .values .now))) in
+    ∙ (λ i. writes (described .put-descriptor .ensures i) (piecesWrites (p .start) (content .before .first-content .ensures i) (a .sections .now) (a .values .now))) in
     let indexed = index .put-index .ensures ∙ (λ i. writes (filled i) (indexWrites (p .numbers) (p .addresses) (d .xnext) (index .before .place-at .ensures i) (a .index .now))) in
     counts .put-counts .ensures
     ∙ (λ i. writes ((rest .put-rest .ensures ∙ (λ j. writes (indexed j) (restWrites d))) i) (countWrites (p .numbers)))
