@@ -90,13 +90,17 @@ module _ (file : List ℕ) (h : Handed) (r : appendOf file h .refusal ≡ 0) whe
   whole =
       let d = numbersOf file in
       let f = accepts .fitting in
-      let head = headOf h (d .xnext) in
-      let then = after _ _ _ h accepts in
       let start = entryStart d in
-      whole-append (headWrites (d .order) start head) _ (simp length-numeral (omega arith))
-      (whole-append (tableWrites (d .order) start (h .ids) (h .lengths)) _ (simp (length-identifierBytes, length-lengthBytes, length-addressBytes) (omega arith))
-      (whole-append (piecesWrites start (firstContent (head .nsec)) (h .sections) (h .values)) _ (omega (arith, f .sections, f .whole))
-      (whole-append (indexWrites then (addressesThen _ _ _ h accepts) (d .xnext) (placeOf (d .reclen) start) (h .index)) _ (simp length-numeral (omega (arith, f .index)))
+      let then = after _ _ _ h accepts in
+      let head = headWrites (d .order) start (headOf h (d .xnext)) in
+      let tables = tableWrites (d .order) start (h .ids) (h .lengths) in
+      let pieces = piecesWrites start (firstContent (headOf h (d .xnext) .nsec)) (h .sections) (h .values) in
+      let index = indexWrites then (addressesThen _ _ _ h accepts) (d .xnext) (placeOf (d .reclen) start) (h .index) in
+      let rest = restWrites d ++ countWrites then in
+      whole-append head (tables ++ (pieces ++ (index ++ rest))) (simp length-numeral (omega arith))
+      (whole-append tables (pieces ++ (index ++ rest)) (simp (length-identifierBytes, length-lengthBytes, length-addressBytes) (omega arith))
+      (whole-append pieces (index ++ rest) (omega (arith, f .sections, f .whole))
+      (whole-append index rest (simp length-numeral (omega (arith, f .index)))
       (whole-append (restWrites d) (countWrites then) (either (full d) (λ q. rw q (simp (length-zeros, length-numeral) (omega arith))) (λ q. rw q tt)) (simp length-numeral (omega arith))))))
 
   -- so no word of the file is written twice
