@@ -159,3 +159,10 @@ static void try_series(const series *s) {
     snprintf(name, sizeof name, "%s: an append refused by 22", s->name);
     count(name, try_append(s, index, data + 1, CLASSIC_APPEND_PARTS));
 }
+
+int main(void) {
+    tracer_begin();
+    for (size_t i = 0; i < sizeof all_series / sizeof all_series[0]; i++) try_series(&all_series[i]);
+    printf("%d passed, %d failed\n", passed, failed);
+    return failed != 0;
+}

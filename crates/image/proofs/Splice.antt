@@ -5,7 +5,7 @@ use native.Mathlib.Omega.{arith}
 use native.Mathlib.Nat.{suc-add, zero-add}
 use native.Mathlib.Numerals.{add-one}
 use mathlib.Core.List.{List, [], _∷_, _++_}
-use lib.ListN.{length, getD, set, take, drop, length-replicate, getD-replicate, replicate-append-replicate}
+use lib.ListN.{length, getD, set, take, drop, length-replicate, replicate-append-replicate}
 use lib.Seq.{drop-nil, take-suc, length-take-le}
 use Rattle.image.specs.Image.{splice, zeros}
 
@@ -90,10 +90,3 @@ pub splice-next : (image : List ℕ) (at : ℕ) (ys now : List ℕ) (j : ℕ) �
 splice-next image at ys now j e l =
     rw (e, add-one j, take-suc ys j 0 l)
     (set-splice _ _ _ ∙ splice-adjacent image at (take j ys) (at + j) (getD ys j 0 ∷ []) (rw (length-take-le j ys (omega arith))))
-
--- a turn of a loop that fills
-pub zeros-next : (image : List ℕ) (at n : ℕ) (now : List ℕ) (j : ℕ) → now ≡ splice image at (take j (zeros n)) → j < n
-    → set now (at + j) 0 ≡ splice image at (take (j + 1) (zeros n))
-unfolding zeros
-zeros-next image at n now j e l =
-    ap (set now (at + j)) (sym (getD-replicate n j 0 0 l)) ∙ splice-next image at (zeros n) now j e (rw (length-zeros n) l)

@@ -25,7 +25,7 @@ ghost use Rattle.storing.specs.AsMade.{clear, clearAround, extensionWrit
 
 // Makes the words from one position to another zero.
 fn clear_words(file: &mut [u8], from: u64, to: u64)
-    requires { ⌜ (from ≤ to) × (to < 2 ^ 32) × (4 * to ≤ length (now file)) ⌝ }
+    requires { ⌜ (from ≤ to) × (to < 2 ^ 30) × (4 * to ≤ length (now file)) ⌝ }
     ensures { λ _. ⌜ Leaves (writes (now (file .entry)) (clear from to ∷ [])) (now (file .exit)) ⌝ }
 {
     image::zero(file, byte_offset(from), byte_offset(to - from))
@@ -33,7 +33,7 @@ fn clear_words(file: &mut [u8], from: u64, to: u64)
 
 // Makes the words from one position to another zero, but for a slot of `lind` words among them.
 fn clear_around(file: &mut [u8], from: u64, slot: u64, lind: u64, to: u64)
-    requires { ⌜ (from ≤ slot) × (slot + lind ≤ to) × (to < 2 ^ 32) × (4 * to ≤ length (now file)) ⌝ }
+    requires { ⌜ (from ≤ slot) × (slot + lind ≤ to) × (to < 2 ^ 30) × (4 * to ≤ length (now file)) ⌝ }
     ensures { λ _. ⌜ Leaves (writes (now (file .entry)) (clearAround from slot lind to)) (now (file .exit)) ⌝ }
 {
     clear_words(file, from, slot);
@@ -53,7 +53,7 @@ fn put_extension(file: &mut [u8], d: DescriptorNumbers, area: RecordNumber)
 // Makes the rest of the new index area, where one is needed for the entry at `start`.
 pub fn put_rest(file: &mut [u8], d: DescriptorNumbers, extends: bool, start: u64)
     requires { ⌜ Settled d × Free d × (freeOf d ≤ 2 ^ 28) × (extends ≡ full d) × Extensible d × (start ≡ entryStart d)
-        × (start < 2 ^ 32) × (4 * start ≤ length (now file)) × (4 * d .reclen ≤ length (now file)) ⌝ }
+        × (start < 2 ^ 30) × (4 * start ≤ length (now file)) × (4 * d .reclen ≤ length (now file)) ⌝ }
     ensures { λ _. ⌜ Leaves (writes (now (file .entry)) (restWrites d)) (now (file .exit)) ⌝ }
 {
     if extends {

@@ -1,19 +1,62 @@
--- `image::zero` meets its contract. The loop's invariant: the image is the one at entry with the zeros passed written over it. Assumes nothing.
+-- `image::zero` meets its contract. The loop's invariant: the image is the one at entry with the zeros passed, whole words, written over it. Assumes nothing.
 use mathlib.Core.Path.{_≡_, refl, sym, ap, _∙_}
-use Prim.Native.Nat.{_-_, _≤_}
+use mathlib.Core.List.{List, [], _∷_}
+use Prim.Native.Nat.{ℕ, _+_, _-_, _/_, _%_, _^_, _≤_, _<_}
 use native.Mathlib.Omega.{arith}
-use lib.ListN.{length, take, length-set}
-use lib.Seq.{take-all}
+use borrow.Author.Needs.{needs}
+use lib.ListN.{length}
 use Rattle.image.specs.Image.{splice, zeros}
-use Rattle.image.proofs.Splice.{splice-nil, zeros-next, length-zeros}
+use Rattle.image.proofs.Splice.{splice-nil, splice-adjacent, length-zeros, zeros-append}
 use Rattle.image.proofs.zero.Statement.{statement}
 use Rattle.image.proofs.zero.Tie as tie
 
 abbrev Inv-loop : tie.InvT-loop
-Inv-loop image₀ at count done₀ image done = (done ≤ count) × (length image ≡ length image₀) × (image ≡ splice image₀ at (take done (zeros count)))
+Inv-loop image₀ at count high word done₀ image done = (done ≤ count) × (done % 4 ≡ 0) × (length image ≡ length image₀) × (image ≡ splice image₀ at (zeros done))
 
 abbrev μ-loop : tie.MeasureT-loop
-μ-loop image₀ at count done₀ image done = count - done
+μ-loop image₀ at count high word done₀ image done = count - done
+
+-- the four bytes of the high half of a number below 2^32
+word-zero : (count : ℕ) → count < 2 ^ 32
+    → count / 4294967296 % 256 ∷ count / 4294967296 / 256 % 256 ∷ count / 4294967296 / 65536 % 256 ∷ count / 4294967296 / 16777216 % 256 ∷ [] ≡ zeros 4
+unfolding zeros
+word-zero count h = let none : count / 4294967296 ≡ 0 = omega arith in rw none refl
+
+loop-holds : tie.Need-loop-holds Inv-loop μ-loop
+unfolding zeros
+loop-holds c = (omega arith, omega arith, refl, sym (splice-nil _ _))
+
+-- the places on the way, each from the one behind it
+abbrev turn : tie.After-word Inv-loop μ-loop → tie.At-loop Inv-loop μ-loop
+turn c = c .before .before .before
+
+abbrev began : tie.At-loop Inv-loop μ-loop → tie.Start Inv-loop μ-loop
+began c = c .before .before
+
+put-requires : tie.Need-put-requires Inv-loop μ-loop
+put-requires c κs = omega (arith, turn c .loop .inv, began (turn c) .pre, c .before .before .loop-test .taken)
+
+loop-again : tie.Need-loop-again Inv-loop μ-loop
+loop-again c =
+    let p = c .before .before in
+    let t = turn (p .before) in
+    let l = t .loop in
+    let s = began t in
+    let at = s .args .at in (
+      omega (arith, l .inv, s .pre, p .before .before .before .loop-test .taken),
+      omega (arith, l .inv),
+      p .put .kept .0 ∙ l .inv .2,
+      p .put .ensures
+          ∙ (λ i. splice (l .inv .3 i) (at + l .done) (word-zero (s .args .count) (s .pre .2) i))
+          ∙ splice-adjacent (s .args .image .now) at (zeros (l .done)) (at + l .done) (zeros 4) (rw length-zeros refl)
+          ∙ ap (splice (s .args .image .now) at) (zeros-append (l .done) 4),
+    )
+
+returns : tie.Need-returns Inv-loop μ-loop
+returns c =
+    let t = c .before in
+    let all : t .loop .done ≡ began t .args .count = omega (arith, t .loop .inv, c .loop-test .left) in
+    t .loop .inv .3 ∙ ap (λ (n : ℕ). splice (began t .args .image .now) (began t .args .at) (zeros n)) all
 
 pub zero-spec : {M : Type 1} → statement M
 zero-spec =
@@ -21,8 +64,16 @@ zero-spec =
     (tie.spec
     Inv-loop
     μ-loop
-    (λ c. (omega arith, refl, sym (splice-nil _ _)))
-    (λ c. omega arith) (λ c. omega arith) (λ c. omega arith) (λ c. omega arith)
-    (λ c. let l = c .before .loop in (omega arith, simp length-set (l .inv .1), zeros-next _ _ _ _ (l .done) (l .inv .2) (omega arith)))
-    (λ c. omega arith)
-    (λ c. c .before .loop .inv .2 ∙ ap (splice _ _) (take-all (c .before .loop .done) (zeros (c .before .before .args .count)) (rw length-zeros (c .loop-test .left)))))
+    (λ c. search needs)
+    (λ c. search needs)
+    (λ c. search needs)
+    (λ c. search needs)
+    loop-holds
+    (λ c. search needs)
+    (λ c. search needs)
+    put-requires
+    (λ c. search needs)
+    (λ c. search needs)
+    loop-again
+    (λ c. search needs)
+    returns)
