@@ -65,11 +65,14 @@ static void on_store(int number, siginfo_t *info, void *context) {
     step = FIRST;
 }
 
+/* Whether a byte of the block was stored. */
+static int was_stored(size_t i) { return after_first[i] != FILLING || block[i] != OTHER_FILLING; }
+
 /* Notes what the instruction stored, and puts the block back with it. */
 static void note(void) {
-    size_t first = BLOCK, last = 0, i;
-    for (i = 0; i < BLOCK; i++) {
-        if (after_first[i] == FILLING && block[i] == OTHER_FILLING) continue;
+    size_t first = BLOCK, last = 0;
+    for (size_t i = 0; i < BLOCK; i++) {
+        if (!was_stored(i)) continue;
         if (after_first[i] != block[i]) tracer_stops("an instruction that reads what it writes");
         if (first == BLOCK) first = i;
         else if (last + 1 != i) tracer_stops("an instruction that stores in two places");

@@ -1,10 +1,19 @@
 -- `storing::area::clear_around` meets its contract: zeros before the slot, then behind it. Assumes nothing.
+use Prim.Native.Nat.{ℕ, _+_}
+use mathlib.Core.Path.{ap, _∙_}
+use mathlib.Core.List.{List, [], _∷_}
 use borrow.Author.Needs.{needs}
+use Rattle.image.specs.Writes.{writes}
+use Rattle.storing.specs.AsMade.{clear}
 use Rattle.storing.proofs.area.clear_around.Statement.{statement}
 use Rattle.storing.proofs.area.clear_around.Tie as tie
 
 returns : tie.Need-returns
-returns c = cc
+returns c =
+    let tail = c .before .before in
+    let skipped = tail .before .before .before .before in
+    let a = skipped .before .before .before .args in
+    tail .clear-words2 .ensures ∙ ap (λ (l : List ℕ). writes l (clear (a .slot + a .lind) (a .to) ∷ [])) (skipped .clear-words .ensures)
 
 pub clear-around-spec : {M : Type 1} → statement M
 clear-around-spec =
