@@ -183,7 +183,8 @@ classic_part classic_data(const uint8_t *file, size_t bytes, uint64_t entry);
 classic_checked classic_check(const uint8_t *file, size_t bytes);
 
 /* Appends an entry: its version, the application's index words, and for each section an identifier, a length in words
-   and its bytes, which stand one after another in sections; then the data. All counts named bytes are in bytes. */
+   and its bytes, which stand one after another in sections; then the data. All counts named bytes are in bytes. No word
+   of the file is stored twice. */
 classic_appended classic_append(uint8_t *file, size_t bytes, int32_t version,
                                 const uint8_t *index, size_t index_bytes,
                                 const int32_t *ids, size_t id_count,

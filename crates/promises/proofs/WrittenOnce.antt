@@ -1,6 +1,6 @@
 -- The writes of an append (Q-6 of 02): the file after an accepted one is the file after its writes, in their order, and no word of the file is written twice. Assumes nothing.
 use Prim.Native.Nat.{ℕ, _+_, _*_, _%_, _≤_}
-use mathlib.Core.Path.{_≡_, sym, ap, _∙_}
+use mathlib.Core.Path.{_≡_, sym, _∙_}
 use mathlib.Core.Logic.{inl, inr}
 use mathlib.Core.Bool.{false, and-eq-true-iff, and-false}
 use mathlib.Core.List.{List, [], _∷_, _++_}

@@ -20,7 +20,7 @@ use Rattle.descriptor.specs.FirstRecord.{freeOf}
 use Rattle.descriptor.proofs.Admitting.{first-free}
 use Rattle.pieces.specs.EntryDescriptor.{wordOffset}
 use Rattle.fields.specs.FieldWrites.{countWrites}
-use Rattle.placing.specs.Placing.{full, newArea, newStart, entryStart, numbersAfter}
+use Rattle.placing.specs.Placing.{full, newStart, entryStart, numbersAfter}
 use Rattle.placing.proofs.Places.{start-extended, new-low, new-slot, start-low, nex-more}
 use Rattle.storing.specs.Handed.{Handed, nsecIn, nwordIn}
 use Rattle.storing.specs.Writing.{headFrom, headOf, headWrites, tableWrites, slotWrites, areaWrites, areaWritten, entryWritten, indexWritten, appended}
@@ -71,7 +71,7 @@ module _ (bytes : ℕ) (d : DescriptorNumbers) (addresses : List RecordNumber) (
   slot-words : Stretch (4 * slot) (4 * d .lind) index
   slot-words = slot-stretch (d .order) slot (d .lind) (placeOf (d .reclen) start) (h .index) (x .admitted .settled .lind-low) (x .fitting .index)
 
-  -- the first record ends before the next free position, and has 16 words or more
+  -- the first record has 16 words or more, and ends before the next free position, and that before the entry
   first : (16 ≤ d .reclen) × (d .reclen ≤ freeOf d) × (freeOf d ≤ start)
   first = (x .admitted .settled .reclen-low, first-free bytes d addresses (x .admitted), start-low d (x .admitted .settled))
 
@@ -93,16 +93,24 @@ module _ (bytes : ℕ) (d : DescriptorNumbers) (addresses : List RecordNumber) (
   counts-apart : (a n : ℕ) → Beside a n 24 20 → Apart a n counts
   counts-apart a n b = apart-stretch a n 24 20 counts b (count-stretch (after bytes d addresses h x))
 
-  -- bytes behind the first record and beside the zeros of a new area are apart from it and the counts
+  -- bytes behind the first record are apart from nex and the address of a new area
+  extension-apart : full d ≡ true → (a n : ℕ) → 4 * d .reclen ≤ a → Apart a n (extensionWrites d)
+  extension-apart q a n low = simp length-numeral (inr (omega (arith, first)), (inr (omega (arith, first, extended q .room)), tt))
+
+  -- and from all that is written there with it
+  first-apart : full d ≡ true → (a n : ℕ) → 4 * d .reclen ≤ a → Apart a n (extensionWrites d ++ counts)
+  first-apart q a n low = apart-append a n (extensionWrites d) counts (extension-apart q a n low) (counts-apart a n (inr (omega (arith, first))))
+
+  -- where they are also beside the zeros of a new area, they are apart from all of the rest
   rest-apart : (a n : ℕ) → 4 * d .reclen ≤ a
       → (full d ≡ true → Beside a n (4 * freeOf d) (4 * (newStart d - freeOf d)) × Beside a n (4 * (newStart d + d .lind)) (4 * (start - (newStart d + d .lind))))
       → Apart a n (restWrites d ++ counts)
   rest-apart a n low b =
-      apart-append a n (restWrites d) counts
-      (either (full d) (λ q. let room = extended q .room in rw q (simp (length-zeros, length-numeral) (b q .0, (b q .1, (inr (omega (arith, first)), (inr (omega (arith, first)), tt)))))) (λ q. rw q tt))
-      (counts-apart a n (inr (omega (arith, first))))
+      either (full d)
+      (λ q. rw q (rw length-zeros (b q .0), (rw length-zeros (b q .1), first-apart q a n low)))
+      (λ q. rw q (counts-apart a n (inr (omega (arith, first)))))
 
-  -- the writes of the rest are, among themselves and from the counts
+  -- the writes of the rest are pairwise apart
   rest-pairwise : PairwiseApart (restWrites d ++ counts)
   rest-pairwise =
       let last : PairwiseApart counts = stretch-pairwise 24 20 counts [] (count-stretch (after bytes d addresses h x)) tt tt in
@@ -110,13 +118,11 @@ module _ (bytes : ℕ) (d : DescriptorNumbers) (addresses : List RecordNumber) (
       (λ q.
       let e = extended q in
       let skipped = length-zeros (4 * (newStart d - freeOf d)) in
-      let tail = length-zeros (4 * (start - (newStart d + d .lind))) in
       let nex = length-numeral (d .order) 4 (d .nex + 1) in
-      let aex = length-numeral (d .order) 8 (newArea d .0) in
       rw q (
-        (inl (omega (arith, skipped, e .low)), (inr (omega (arith, nex, first)), (inr (omega (arith, aex, first, e .room)), counts-apart _ _ (inr (omega (arith, first)))))),
+        (inl (omega (arith, skipped, e .low)), first-apart q _ _ (omega (arith, first))),
         (
-          (inr (omega (arith, nex, first, e .low)), (inr (omega (arith, aex, first, e .room, e .low)), counts-apart _ _ (inr (omega (arith, first, e .low))))),
+          first-apart q _ _ (omega (arith, first, e .low)),
           ((inl (omega (arith, nex)), counts-apart _ _ (inr (omega arith))), (counts-apart _ _ (inr (omega arith)), last)),
         ),
       ))
@@ -153,22 +159,18 @@ module _ (bytes : ℕ) (d : DescriptorNumbers) (addresses : List RecordNumber) (
   -- with a new area: the entry before it, and its index before nex, the address and the zeros around it
   area-last : full d ≡ true → (file : List ℕ) → writes (writes (writes file entry) index) (clearAround (freeOf d) (newStart d) (d .lind) start ++ extensionWrites d) ≡ writes (writes (writes file (areaWrites d)) entry) index
   area-last q file =
-      let e = extended q in
       let rest = clearAround (freeOf d) (newStart d) (d .lind) start ++ extensionWrites d in
       let put-entry = splice file (4 * start) (written entry) in
       let cleared = length-zeros (4 * (start - freeOf d)) in
-      let nex = length-numeral (d .order) 4 (d .nex + 1) in
-      let aex = length-numeral (d .order) 8 (newArea d .0) in
-      let before = slot-first bytes d addresses h x in
       ap (λ (l : List ℕ). writes (writes l index) rest) (writes-one file (4 * start) entry (entry-words .0))
       ∙ ap (λ (l : List ℕ). writes l rest) (writes-one put-entry (4 * slot) index (slot-words .0))
       ∙ sym
       (writes-one (writes (writes file (areaWrites d)) entry) (4 * slot) index (slot-words .0)
       ∙ ap (λ (l : List ℕ). splice l (4 * slot) (written index))
       (writes-one (writes file (areaWrites d)) (4 * start) entry (entry-words .0)
-      ∙ writes-past file (4 * start) (written entry) (areaWrites d) (inr (omega (arith, cleared, first)), (inr (omega (arith, nex, first)), (inr (omega (arith, aex, first, e .room)), tt))))
+      ∙ writes-past file (4 * start) (written entry) (areaWrites d) (inr (omega (arith, cleared, first)), extension-apart q _ _ (omega (arith, first))))
       ∙ writes-past (splice put-entry (4 * freeOf d) (zeros (4 * (start - freeOf d)))) (4 * slot) (written index) (extensionWrites d)
-      (inr (omega (arith, nex, first, before)), (inr (omega (arith, aex, first, before, e .room)), tt))
+      (extension-apart q _ _ (omega (arith, slot-first bytes d addresses h x)))
       ∙ ap (λ (l : List ℕ). writes l (extensionWrites d)) (around q put-entry))
 
   -- the file after them is the one after an accepted append

@@ -1,13 +1,11 @@
 -- `storing::area::put_rest` meets its contract: zeros around the first slot, then nex and the address; or nothing. Assumes nothing.
-use Prim.Native.Nat.{_+_, _≤_}
 use mathlib.Core.Path.{_≡_, sym, ap, _∙_}
 use mathlib.Core.Bool.{true}
 use native.Mathlib.Omega.{arith}
 use borrow.Author.Needs.{needs}
 use Rattle.geometry.specs.Units.{positionOf}
-use Rattle.descriptor.specs.FirstRecord.{freeOf}
 use Rattle.image.specs.Writes.{writes}
-use Rattle.placing.specs.Placing.{full, newStart, entryStart}
+use Rattle.placing.specs.Placing.{full, newStart}
 use Rattle.placing.proofs.Places.{new-some, new-small, new-low, new-slot, start-extended, nex-more}
 use Rattle.storing.specs.AsMade.{clearAround, extensionWrites}
 use Rattle.storing.proofs.area.put_rest.Statement.{statement}
