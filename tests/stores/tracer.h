@@ -1,10 +1,10 @@
 /* Traces the stores that a call makes into a block of memory, on x86-64.
 
    While a trace goes on the block cannot be written, so every instruction that stores into it stops at a signal. The
-   instruction is then made as a single step by the processor's trap flag, once over a block filled with one byte and
-   once over a block filled with another: what differs from either filling is what it stored, also where that is equal
-   to what stood there. The registers are as they were before the second step, so the two store the same, and the block
-   is put back with the stored bytes in it. Nothing is asked of the program that is traced. */
+   instruction is then made as a single step by the processor's trap flag, once with the bytes around filled with one
+   value and once with another: what differs from either filling is what it stored, also where that is equal to what
+   stood there. The registers are as they were before the second step, so the two store the same, and the bytes around
+   are put back with the stored ones among them. Nothing is asked of the program that is traced. */
 #ifndef TRACER_H
 #define TRACER_H
 
@@ -17,8 +17,9 @@
 #include <sys/mman.h>
 #include <ucontext.h>
 
-/* The block's size, whole pages on every machine; the most stores of a call; the two fillings. */
-enum { BLOCK = 65536, STORES = 65536, TRAP_FLAG = 0x100, FILLING = 0x5A, OTHER_FILLING = 0xA5 };
+/* The block's size, whole pages on every machine; how far around a store is looked, twice what an instruction stores at
+   most; the most stores of a call; the two fillings. */
+enum { BLOCK = 65536, AROUND = 128, STORES = 65536, TRAP_FLAG = 0x100, FILLING = 0x5A, OTHER_FILLING = 0xA5 };
 
 /* Bytes that one instruction stored: the first, counted from the block's start, and how many. */
 typedef struct {
@@ -30,8 +31,10 @@ static uint8_t *block;
 static store stores[STORES];
 static size_t store_count;
 
-/* What the tracer is at: an instruction that stores has not been met, or is being made for the first or second time. */
+/* What the tracer is at: an instruction that stores has not been met, or is being made for the first or second time; the
+   bytes of the block that are looked at, as they were and after the first time; and the registers. */
 static enum { WAITING, FIRST, SECOND } step;
+static size_t low, high;
 static uint8_t as_it_was[BLOCK], after_first[BLOCK];
 static gregset_t registers;
 
@@ -46,32 +49,35 @@ static void guard(int may) {
     if (mprotect(block, BLOCK, may) != 0) tracer_stops("mprotect does not work");
 }
 
-/* Fills the block, and has the instruction made as a single step. */
+/* Fills the bytes around, and has the instruction made as a single step. */
 static void make(ucontext_t *context, int filling) {
-    memset(block, filling, BLOCK);
+    memset(block + low, filling, high - low);
     memcpy(context->uc_mcontext.gregs, registers, sizeof registers);
     context->uc_mcontext.gregs[REG_EFL] |= TRAP_FLAG;
 }
 
 /* An instruction is about to store into the block. */
 static void on_store(int number, siginfo_t *info, void *context) {
-    uint8_t *at = info->si_addr;
+    uint8_t *there = info->si_addr;
+    size_t at = (size_t)(there - block);
     (void)number;
-    if (step != WAITING || at < block || at >= block + BLOCK) tracer_stops("an access outside of the lent memory");
+    if (step != WAITING || there < block || at >= BLOCK) tracer_stops("an access outside of the lent memory");
+    low = at < AROUND ? 0 : at - AROUND;
+    high = at > BLOCK - AROUND ? BLOCK : at + AROUND;
     guard(PROT_READ | PROT_WRITE);
-    memcpy(as_it_was, block, BLOCK);
+    memcpy(as_it_was + low, block + low, high - low);
     memcpy(registers, ((ucontext_t *)context)->uc_mcontext.gregs, sizeof registers);
     make(context, FILLING);
     step = FIRST;
 }
 
-/* Whether a byte of the block was stored. */
+/* Whether a byte was stored. */
 static int was_stored(size_t i) { return after_first[i] != FILLING || block[i] != OTHER_FILLING; }
 
-/* Notes what the instruction stored, and puts the block back with it. */
+/* Notes what the instruction stored, and puts the bytes around back with it. */
 static void note(void) {
     size_t first = BLOCK, last = 0;
-    for (size_t i = 0; i < BLOCK; i++) {
+    for (size_t i = low; i < high; i++) {
         if (!was_stored(i)) continue;
         if (after_first[i] != block[i]) tracer_stops("an instruction that reads what it writes");
         if (first == BLOCK) first = i;
@@ -83,14 +89,14 @@ static void note(void) {
     if (store_count == STORES) tracer_stops("too many stores");
     stores[store_count].start = first;
     stores[store_count++].length = last - first + 1;
-    memcpy(block, as_it_was, BLOCK);
+    memcpy(block + low, as_it_was + low, high - low);
 }
 
 /* The instruction was made. */
 static void on_step(int number, siginfo_t *info, void *context) {
     (void)number, (void)info;
     if (step == FIRST) {
-        memcpy(after_first, block, BLOCK);
+        memcpy(after_first + low, block + low, high - low);
         make(context, OTHER_FILLING);
         step = SECOND;
     } else if (step == SECOND) {

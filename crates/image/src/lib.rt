@@ -36,10 +36,10 @@ pub fn zero(image: &mut [u8], at: usize, count: usize)
         (high / 65536 % 256) as u8,
         (high / 16777216 % 256) as u8,
     ];
-    let mut done = 0;
-    while done < count {
-        put(image, at + done, &word);
-        done += 4;
+    let mut filled = 0;
+    while filled < count {
+        put(image, at + filled, &word);
+        filled += 4;
     }
 }
 

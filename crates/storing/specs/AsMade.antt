@@ -1,5 +1,5 @@
--- The writes of an accepted append as they are made, in order: the entry, its index, the rest of a new area, and the first record. No word of the file is written
--- twice; that together they leave the file that 01 names is `made-appended`, in proofs/Made.antt.
+-- The writes of an accepted append in the order in which they are made: the entry, its index, the rest of a new area, and the counts. No two share a byte, and
+-- together they leave `appended`: `made-apart` and `made-appended`, in proofs/Made.antt.
 use Prim.Native.Nat.{ℕ, _+_, _-_}
 use mathlib.Core.Bool.{cond}
 use mathlib.Core.List.{List, [], _∷_, _++_}

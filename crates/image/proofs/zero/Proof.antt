@@ -11,10 +11,10 @@ use Rattle.image.proofs.zero.Statement.{statement}
 use Rattle.image.proofs.zero.Tie as tie
 
 abbrev Inv-loop : tie.InvT-loop
-Inv-loop image₀ at count high word done₀ image done = (done ≤ count) × (done % 4 ≡ 0) × (length image ≡ length image₀) × (image ≡ splice image₀ at (zeros done))
+Inv-loop image₀ at count high word filled₀ image filled = (filled ≤ count) × (filled % 4 ≡ 0) × (length image ≡ length image₀) × (image ≡ splice image₀ at (zeros filled))
 
 abbrev μ-loop : tie.MeasureT-loop
-μ-loop image₀ at count high word done₀ image done = count - done
+μ-loop image₀ at count high word filled₀ image filled = count - filled
 
 -- the four bytes of the high half of a number below 2^32
 word-zero : (count : ℕ) → count < 2 ^ 32
@@ -47,15 +47,15 @@ loop-again c =
       omega (arith, l .inv),
       p .put .kept .0 ∙ l .inv .2,
       p .put .ensures
-          ∙ (λ i. splice (l .inv .3 i) (at + l .done) (word-zero (s .args .count) (s .pre .2) i))
-          ∙ splice-adjacent (s .args .image .now) at (zeros (l .done)) (at + l .done) (zeros 4) (rw length-zeros refl)
-          ∙ ap (splice (s .args .image .now) at) (zeros-append (l .done) 4),
+          ∙ (λ i. splice (l .inv .3 i) (at + l .filled) (word-zero (s .args .count) (s .pre .2) i))
+          ∙ splice-adjacent (s .args .image .now) at (zeros (l .filled)) (at + l .filled) (zeros 4) (rw length-zeros refl)
+          ∙ ap (splice (s .args .image .now) at) (zeros-append (l .filled) 4),
     )
 
 returns : tie.Need-returns Inv-loop μ-loop
 returns c =
     let t = c .before in
-    let all : t .loop .done ≡ began t .args .count = omega (arith, t .loop .inv, c .loop-test .left) in
+    let all : t .loop .filled ≡ began t .args .count = omega (arith, t .loop .inv, c .loop-test .left) in
     t .loop .inv .3 ∙ ap (λ (n : ℕ). splice (began t .args .image .now) (began t .args .at) (zeros n)) all
 
 pub zero-spec : {M : Type 1} → statement M
