@@ -2,8 +2,8 @@
 // bytes are all zero.
 //
 // An image is a list of bytes, and offsets count bytes from 0. A function that writes says what the
-// whole slice holds at exit, so a caller learns of every byte whether it changed. Every write of this
-// project goes through `put`.
+// whole slice holds at exit, so a caller learns of every byte whether it changed. Every write of the
+// library to a file goes through `put`.
 ghost use mathlib.Core.Path.{_≡_};
 ghost use Prim.Native.Nat.{_+_, _%_, _^_, _≤_, _<_, max};
 ghost use lib.ListN.{length};
