@@ -146,7 +146,7 @@ module _ (bytes : ℕ) (d : DescriptorNumbers) (addresses : List RecordNumber) (
 
   -- zeros in all words from the next free position to the entry and slot 1 over them are slot 1 and zeros around it
   around : full d ≡ true → (image : List ℕ) → splice (splice image (4 * freeOf d) (zeros (4 * (start - freeOf d)))) (4 * slot) (written index)
-      ≡ writes (splice image (4 * slot) (written index)) (clearAround (freeOf d) (newStart d) (d .lind) start)
+      ≡ writes (splice image (4 * slot) (written index)) (clearAround (freeOf d) (newStart d) (newStart d + d .lind) start)
   around q image =
       let e = extended q in
       let long = slot-words .1 in
@@ -157,9 +157,9 @@ module _ (bytes : ℕ) (d : DescriptorNumbers) (addresses : List RecordNumber) (
       ∙ (λ i. writes (splice image (4 * slot) (written index)) (put (4 * freeOf d) (zeros (skipped i)) ∷ put (behind i) (zeros (tail i)) ∷ []))
 
   -- with a new area: the entry before it, and its index before nex, the address and the zeros around it
-  area-last : full d ≡ true → (file : List ℕ) → writes (writes (writes file entry) index) (clearAround (freeOf d) (newStart d) (d .lind) start ++ extensionWrites d) ≡ writes (writes (writes file (areaWrites d)) entry) index
+  area-last : full d ≡ true → (file : List ℕ) → writes (writes (writes file entry) index) (clearAround (freeOf d) (newStart d) (newStart d + d .lind) start ++ extensionWrites d) ≡ writes (writes (writes file (areaWrites d)) entry) index
   area-last q file =
-      let rest = clearAround (freeOf d) (newStart d) (d .lind) start ++ extensionWrites d in
+      let rest = clearAround (freeOf d) (newStart d) (newStart d + d .lind) start ++ extensionWrites d in
       let put-entry = splice file (4 * start) (written entry) in
       let cleared = length-zeros (4 * (start - freeOf d)) in
       ap (λ (l : List ℕ). writes (writes l index) rest) (writes-one file (4 * start) entry (entry-words .0))

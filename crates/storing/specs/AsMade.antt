@@ -47,11 +47,11 @@ indexWrites after addresses number place index = slotWrites (after .order) (slot
 abbrev pub clear : ℕ → ℕ → Write
 clear from to = put (offsetOf from) (zeros (offsetOf (to - from)))
 
--- and in those of them that are not in a slot of so many words
+-- and in those of them that do not stand from a slot's start to its end
 abbrev pub clearAround : ℕ → ℕ → ℕ → ℕ → List Write
-clearAround from slot lind to =
+clearAround from slot slotEnd to =
     clear from slot ∷
-    clear (slot + lind) to ∷
+    clear slotEnd to ∷
     []
 
 -- nex and the address of a new area
@@ -63,7 +63,7 @@ extensionWrites d =
 
 -- the rest of a new area, if one is needed: the words skipped before it and its words behind slot 1 become zero, nex and its address are set
 abbrev pub restWrites : DescriptorNumbers → List Write
-restWrites d = cond (full d) (clearAround (freeOf d) (newStart d) (d .lind) (entryStart d) ++ extensionWrites d) []
+restWrites d = cond (full d) (clearAround (freeOf d) (newStart d) (newStart d + d .lind) (entryStart d) ++ extensionWrites d) []
 
 -- all of them, for an entry with this head at its place
 abbrev pub storeWrites : DescriptorNumbers → Placement → Head → Handed → List Write

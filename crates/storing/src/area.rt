@@ -31,13 +31,13 @@ fn clear_words(file: &mut [u8], from: u64, to: u64)
     image::zero(file, byte_offset(from), byte_offset(to - from))
 }
 
-// Makes the words from one position to another zero, but for a slot of `lind` words among them.
-fn clear_around(file: &mut [u8], from: u64, slot: u64, lind: u64, to: u64)
-    requires { ⌜ (from ≤ slot) × (slot + lind ≤ to) × (to < 2 ^ 30) × (4 * to ≤ length (now file)) ⌝ }
-    ensures { λ _. ⌜ Leaves (writes (now (file .entry)) (clearAround from slot lind to)) (now (file .exit)) ⌝ }
+// Makes the words from one position to another zero, but for those from `slot` to `slot_end` among them.
+fn clear_around(file: &mut [u8], from: u64, slot: u64, slot_end: u64, to: u64)
+    requires { ⌜ (from ≤ slot) × (slot ≤ «slot_end») × («slot_end» ≤ to) × (to < 2 ^ 30) × (4 * to ≤ length (now file)) ⌝ }
+    ensures { λ _. ⌜ Leaves (writes (now (file .entry)) (clearAround from slot «slot_end» to)) (now (file .exit)) ⌝ }
 {
     clear_words(file, from, slot);
-    clear_words(file, slot + lind, to);
+    clear_words(file, slot_end, to);
 }
 
 // Writes nex and the address of a new area.
@@ -59,7 +59,7 @@ pub fn put_rest(file: &mut [u8], d: DescriptorNumbers, extends: bool, start: u64
     if extends {
         let area = new_area(d);
         let slot = position(d.reclen, area, WordNumber(1));
-        clear_around(file, free_position(d), slot, d.lind, start);
+        clear_around(file, free_position(d), slot, slot + d.lind, start);
         put_extension(file, d, area);
     }
 }

@@ -1,7 +1,7 @@
--- `image::zero` meets its contract. The loop's invariant: the image is the one at entry with the zeros passed, whole words, written over it. Assumes nothing.
+-- `image::zero` meets its contract. The loop's invariant: the word is zero, and the image is the one at entry with the zeros passed, whole words, written over it. Assumes nothing.
 use mathlib.Core.Path.{_≡_, refl, sym, ap, _∙_}
 use mathlib.Core.List.{[], _∷_}
-use Prim.Native.Nat.{ℕ, _+_, _-_, _/_, _%_, _^_, _≤_, _<_}
+use Prim.Native.Nat.{ℕ, _+_, _-_, _/_, _%_, _≤_}
 use native.Mathlib.Omega.{arith}
 use borrow.Author.Needs.{needs}
 use lib.ListN.{length}
@@ -11,20 +11,19 @@ use Rattle.image.proofs.zero.Statement.{statement}
 use Rattle.image.proofs.zero.Tie as tie
 
 abbrev Inv-loop : tie.InvT-loop
-Inv-loop image₀ at count high word filled₀ image filled = (filled ≤ count) × (filled % 4 ≡ 0) × (length image ≡ length image₀) × (image ≡ splice image₀ at (zeros filled))
+Inv-loop image₀ at count high word filled₀ image filled = (word ≡ zeros 4) × (filled ≤ count) × (filled % 4 ≡ 0) × (length image ≡ length image₀) × (image ≡ splice image₀ at (zeros filled))
 
 abbrev μ-loop : tie.MeasureT-loop
 μ-loop image₀ at count high word filled₀ image filled = count - filled
 
--- the four bytes of the high half of a number below 2^32
-word-zero : (count : ℕ) → count < 2 ^ 32
-    → count / 4294967296 % 256 ∷ count / 4294967296 / 256 % 256 ∷ count / 4294967296 / 65536 % 256 ∷ count / 4294967296 / 16777216 % 256 ∷ [] ≡ zeros 4
+-- the four bytes of 0
+word-zero : (high : ℕ) → high ≡ 0 → high % 256 ∷ high / 256 % 256 ∷ high / 65536 % 256 ∷ high / 16777216 % 256 ∷ [] ≡ zeros 4
 unfolding zeros
-word-zero count h = let none : count / 4294967296 ≡ 0 = omega arith in rw none refl
+word-zero high none = rw none refl
 
 loop-holds : tie.Need-loop-holds Inv-loop μ-loop
 unfolding zeros
-loop-holds c = (omega arith, omega arith, refl, sym (splice-nil _ _))
+loop-holds c = (word-zero _ (omega (arith, c .before .pre)), omega arith, omega arith, refl, sym (splice-nil _ _))
 
 -- the places on the way, each from the one behind it
 abbrev turn : tie.After-word Inv-loop μ-loop → tie.At-loop Inv-loop μ-loop
@@ -43,11 +42,12 @@ loop-again c =
     let l = t .loop in
     let s = began t in
     let at = s .args .at in (
+      l .inv .0,
       omega (arith, l .inv, s .pre, p .before .before .before .loop-test .taken),
       omega (arith, l .inv),
-      p .put .kept .0 ∙ l .inv .2,
+      p .put .kept .0 ∙ l .inv .3,
       p .put .ensures
-          ∙ (λ i. splice (l .inv .3 i) (at + l .filled) (word-zero (s .args .count) (s .pre .2) i))
+          ∙ (λ i. splice (l .inv .4 i) (at + l .filled) (l .inv .0 i))
           ∙ splice-adjacent (s .args .image .now) at (zeros (l .filled)) (at + l .filled) (zeros 4) (rw length-zeros refl)
           ∙ ap (splice (s .args .image .now) at) (zeros-append (l .filled) 4),
     )
@@ -56,7 +56,7 @@ returns : tie.Need-returns Inv-loop μ-loop
 returns c =
     let t = c .before in
     let all : t .loop .filled ≡ began t .args .count = omega (arith, t .loop .inv, c .loop-test .left) in
-    t .loop .inv .3 ∙ ap (λ (n : ℕ). splice (began t .args .image .now) (began t .args .at) (zeros n)) all
+    t .loop .inv .4 ∙ ap (λ (n : ℕ). splice (began t .args .image .now) (began t .args .at) (zeros n)) all
 
 pub zero-spec : {M : Type 1} → statement M
 zero-spec =

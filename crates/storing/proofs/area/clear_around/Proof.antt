@@ -1,7 +1,6 @@
 -- `storing::area::clear_around` meets its contract: zeros before the slot, then behind it. Assumes nothing.
-use Prim.Native.Nat.{ℕ, _+_}
-use mathlib.Core.Path.{ap, _∙_}
-use mathlib.Core.List.{List, [], _∷_}
+use mathlib.Core.Path.{_∙_}
+use mathlib.Core.List.{[], _∷_}
 use borrow.Author.Needs.{needs}
 use Rattle.image.specs.Writes.{writes}
 use Rattle.storing.specs.AsMade.{clear}
@@ -13,14 +12,13 @@ returns c =
     let tail = c .before .before in
     let skipped = tail .before .before .before .before in
     let a = skipped .before .before .before .args in
-    tail .clear-words2 .ensures ∙ ap (λ (l : List ℕ). writes l (clear (a .slot + a .lind) (a .to) ∷ [])) (skipped .clear-words .ensures)
+    tail .clear-words2 .ensures ∙ (λ i. writes (skipped .clear-words .ensures i) (clear (a .slot-end) (a .to) ∷ []))
 
 pub clear-around-spec : {M : Type 1} → statement M
 clear-around-spec =
     tie.close
     (tie.spec
     (λ c κs. search needs)
-    (λ c. search needs)
     (λ c κs. search needs)
     (λ c. search needs)
     returns)

@@ -1,4 +1,5 @@
 -- `storing::area::put_rest` meets its contract: zeros around the first slot, then nex and the address; or nothing. Assumes nothing.
+use Prim.Native.Nat.{_+_, _≤_}
 use mathlib.Core.Path.{_≡_, sym, ap, _∙_}
 use mathlib.Core.Bool.{true}
 use native.Mathlib.Omega.{arith}
@@ -19,7 +20,7 @@ abbrev taken : tie.After-position → tie.Then1
 taken c = c .before .before
 
 abbrev found : tie.After-clear-around → tie.After-position
-found c = let p : tie.After-free-position = c .before in p .before .before
+found c = let p : tie.After-free-position = c .before .before in p .before .before
 
 -- the extensions in use are full
 extended : (c : tie.Then1) → full (began c .args .d) ≡ true
@@ -35,16 +36,19 @@ position-requires c κs =
     let d = s .args .d in
     rw (c .new-area .ensures) (new-some d, omega (arith, new-small d (s .pre .0) (s .pre .2)), omega arith, omega arith, s .pre .0 .reclen-high)
 
+-- the slot ends at or before the entry
+ends : (c : tie.After-position) → let s = began (taken c) in c .position .result + s .args .d .lind ≤ s .args .start
+ends c = let s = began (taken c) in let d = s .args .d in omega (arith, here c, new-slot d (s .pre .0), start-extended d (extended (taken c)), s .pre .5)
+
+add-clear-around : tie.Need-add-clear-around
+add-clear-around c = let p = c .before .before .before in omega (arith, ends p, began (taken p) .pre .6)
+
 clear-around-requires : tie.Need-clear-around-requires
 clear-around-requires c κs =
-    let p = c .before .before in
-    let t = taken p in
-    let s = began t in
-    let d = s .args .d in
-    let slot = here p in
-    let high = new-slot d (s .pre .0) in
-    let start = start-extended d (extended t) in
-    (omega (arith, slot, new-low d (s .pre .0), c .free-position .ensures), omega (arith, slot, high, start, s .pre .5), s .pre .6, s .pre .7)
+    let f = c .before in
+    let p = f .before .before in
+    let s = began (taken p) in
+    (omega (arith, here p, new-low (s .args .d) (s .pre .0), f .free-position .ensures), omega arith, ends p, s .pre .6, s .pre .7)
 
 put-extension-requires : tie.Need-put-extension-requires
 put-extension-requires c κs =
@@ -63,7 +67,7 @@ returns c =
     let s = began t in
     let d = s .args .d in
     let cleared = around .clear-around .ensures
-    ∙ (λ i. writes (s .args .file .now) (clearAround (around .before .free-position .ensures i) (here at i) (d .lind) (s .pre .5 i))) in
+    ∙ (λ i. writes (s .args .file .now) (clearAround (around .before .before .free-position .ensures i) (here at i) (here at i + d .lind) (s .pre .5 i))) in
     rw (extended t) (p .put-extension .ensures ∙ ap (λ l. writes l (extensionWrites d)) cleared)
 
 returns-2 : tie.Need-returns-2
@@ -76,6 +80,7 @@ put-rest-spec =
     (λ c κs. search needs)
     position-requires
     (λ c κs. search needs)
+    add-clear-around
     clear-around-requires
     put-extension-requires
     (λ c. search needs)
