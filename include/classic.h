@@ -48,23 +48,27 @@ extern "C" {
    as they are handed over: no call reads them as numbers or turns them, in either order.
 
    Lending. The file is the caller's whole buffer; bytes past the next free word are free room and mean nothing.
-   Every buffer belongs to the caller, is used during the call only, and is never kept or freed. A call reads
-   and writes within the given counts only. What is passed as const is not changed; create and append change the
-   file when they accept, and no byte of it when they refuse. The buffers of one call must not overlap: append's
-   file, index words, identifiers, lengths, section bytes and data are apart. The file and byte buffers need
-   no alignment; ids and lengths are aligned as their types are. An empty buffer may be (NULL, 0). Calls that
-   only read may share a file between threads.
+   Every buffer belongs to the caller, is used during the call only, and is never kept or freed. A call reads and
+   writes within the given counts only. What is passed as const is not changed; create and append change the file
+   when they accept, and no byte of it when they refuse; append_batch changes it by the entries that it accepts, and
+   by no other byte. The buffers of one call must not overlap: append's file, index words, identifiers, lengths,
+   section bytes and data are apart, and so are append_batch's, with versions and counts. The file and byte buffers
+   need no alignment; versions, counts, ids and lengths are aligned as their types are. An empty buffer may be
+   (NULL, 0). Calls that only read may share a file between threads.
 
-   Answers are given by value and belong to the caller. A part is a place in the lent file, not a copy: its bytes
-   are file + start to file + start + length, as long as the file is lent and unchanged. Each answer has a
-   refusal, 0 when the call accepts; a refused call gives zeros elsewhere, only a check adds an entry number. */
+   Answers are given by value and belong to the caller. A part is a place in the lent file, not a copy: its bytes are
+   file + start to file + start + length, as long as the file is lent and unchanged. Each answer has a refusal, 0
+   when the call accepts; a refused call gives zeros elsewhere, only a check adds an entry number, and append_batch
+   how many entries were accepted before the one that was refused. */
 
 /* The refusals, in the order in which they are tested, which is not that of their numbers: a call gives the first that
    applies. Every call but create tests 1 to 11 and then 29; create tests 1 to 8 on its settings. extension_of adds 12;
    open, index_words and data add 12 to 19, section adds 20 to these; append adds 21 to 24; check adds 13 to 19 for each
-   entry, and 25. */
+   entry, and 25. append_batch tests 26 before all others, and then as append does for each entry in turn. */
 enum classic_refusal {
     CLASSIC_ACCEPTED = 0,        /* no refusal */
+    CLASSIC_BATCH_COUNTS = 26,   /* append_batch: over 64 entries, rows of counts and versions not as many, or a column
+                                    of the counts that does not use up its array exactly */
     CLASSIC_LENT_SHORT = 1,      /* fewer than 64 bytes are lent */
     CLASSIC_FILE_CODE = 2,       /* the file code is neither "2A  " nor "2B  "; create: the order is neither 0 nor 1 */
     CLASSIC_RECLEN = 3,          /* reclen is not 16 to 4,096 */
@@ -145,6 +149,13 @@ typedef struct {
     uint64_t number;
 } classic_appended;
 
+/* A batch: how many of its entries were accepted, which are its first, and the refusal of the one behind them, 0 where
+   all were accepted. With 26 none is. */
+typedef struct {
+    uint32_t refusal;
+    uint64_t accepted;
+} classic_batched;
+
 /* An order check: 0 and 0 when all is in order; else the first failing entry and its refusal, with entry 0 where the
    descriptor is refused. */
 typedef struct {
@@ -191,6 +202,19 @@ classic_appended classic_append(uint8_t *file, size_t bytes, int32_t version,
                                 const int64_t *lengths, size_t length_count,
                                 const uint8_t *sections, size_t section_bytes,
                                 const uint8_t *data, size_t data_bytes);
+
+/* Appends up to 64 entries, as that many calls of append in turn would, up to the first that is refused: the entries
+   before it stay, and none behind it is tried. Each kind is laid end to end: the versions, and for each entry a row of
+   counts, which are its index bytes, identifiers, lengths, section bytes and data bytes. A file that is refused is so
+   with the first entry; no entries, with empty arrays, answer 0 and 0 for any bytes. */
+classic_batched classic_append_batch(uint8_t *file, size_t bytes,
+                                     const int32_t *versions, size_t version_count,
+                                     const uint64_t (*counts)[5], size_t count_rows,
+                                     const uint8_t *index, size_t index_bytes,
+                                     const int32_t *ids, size_t id_count,
+                                     const int64_t *lengths, size_t length_count,
+                                     const uint8_t *sections, size_t section_bytes,
+                                     const uint8_t *data, size_t data_bytes);
 
 #ifdef __cplusplus
 }

@@ -2,18 +2,20 @@
 //! seed and its number alone.
 
 use crate::additions::{addition, spoil};
+use crate::batches;
 use crate::damage::{codes, edges, fields, random_damage, turned, Field};
 use crate::examples::examples;
 use crate::files::{self, area_words, make, make_full, most_extensions, put_bare, together, Made, Shape};
 use crate::random::Random;
 use crate::reference::{self, Addition, Order, Settings};
 use crate::script::{Asked, Call, Script};
+use crate::sweeps::{laid, sweep};
 
 /// What writes a case of a kind into a script.
 type Kind = fn(&mut Random, &mut Script);
 
 /// How many cases there are of each kind in each order, one kind after another.
-const PLAN: [(usize, Kind); 15] = [
+const PLAN: [(usize, Kind); 23] = [
     (1, examples),
     (20, every_edge),
     (6, last_of_64),
@@ -28,11 +30,20 @@ const PLAN: [(usize, Kind); 15] = [
     (400, whole),
     (200, creations),
     (300, appends),
+    (66, batches::sizes),
+    (8, batches::refused_entries),
+    (10, batches::refused_growth),
+    (6, batches::refused_room),
+    (4, batches::refused_files),
+    (12, batches::wrong_counts),
+    (100, batches::any_batches),
     (SERIES, series),
+    (BATCH_SERIES, batches::batch_series),
 ];
 
-/// The number of series in each order; they are the last cases.
+/// The numbers of series in each order, of appends and with batches; they are the last cases.
 const SERIES: usize = 250;
+const BATCH_SERIES: usize = 100;
 
 /// The number of cases.
 pub fn count() -> usize {
@@ -41,7 +52,7 @@ pub fn count() -> usize {
 
 /// Says whether a case is a series for demand 3.
 pub fn is_series(case: usize) -> bool {
-    case >= count() - 2 * SERIES
+    case >= count() - 2 * (SERIES + BATCH_SERIES)
 }
 
 /// Makes a case.
@@ -118,7 +129,7 @@ fn all_readings(random: &mut Random, script: &mut Script, made: &Made, entry: u6
 }
 
 /// Appends, spoiled once in so many times.
-fn append(random: &mut Random, script: &mut Script, lind: i32, spoiled: usize) -> u32 {
+pub fn append(random: &mut Random, script: &mut Script, lind: i32, spoiled: usize) -> u32 {
     let mut a = addition(random, lind);
     if random.once_in(spoiled) {
         for _ in 0..random.pick(&[1, 1, 1, 2]) {
@@ -184,6 +195,7 @@ fn great_lengths(random: &mut Random, script: &mut Script) {
         script.lend(&made.bytes, total);
         all_readings(random, script, &made, 1);
         append(random, script, 4, 8);
+        script.call(Call::AppendBatch(laid(&sweep(random, 4, 3))));
         script.again();
         script.call(Call::Create(shape.settings));
         append(random, script, 4, 8);
@@ -395,7 +407,7 @@ fn read_or_append(random: &mut Random, script: &mut Script, made: &Made) {
 }
 
 /// Puts a shape's entries out of order, lets them overlap or have 65 sections, once in so many times.
-fn disorder(random: &mut Random, shape: &mut Shape, times: usize) {
+pub fn disorder(random: &mut Random, shape: &mut Shape, times: usize) {
     if shape.entries > 0 && random.once_in(times) {
         match random.from(1, 5) {
             1 | 2 => shape.shuffled = true,
@@ -450,13 +462,18 @@ fn whole(random: &mut Random, script: &mut Script) {
 fn read_all(script: &mut Script) {
     let entries = reference::validate(&script.file).map_or(0, |d| d.entries() as u64);
     for entry in 1..=entries {
-        script.call(Call::Open(entry));
-        script.call(Call::IndexWords(entry));
-        for id in reference::open(&script.file, entry).map_or(vec![], |e| e.ids) {
-            script.call(Call::Section(entry, id as i32));
-        }
-        script.call(Call::Data(entry));
+        read_entry(script, entry);
     }
+}
+
+/// Reads an entry with its index words, sections and data.
+pub fn read_entry(script: &mut Script, entry: u64) {
+    script.call(Call::Open(entry));
+    script.call(Call::IndexWords(entry));
+    for id in reference::open(&script.file, entry).map_or(vec![], |e| e.ids) {
+        script.call(Call::Section(entry, id as i32));
+    }
+    script.call(Call::Data(entry));
 }
 
 /// Creations with good settings and with one or more at an edge, over bytes of any content.
@@ -537,9 +554,17 @@ fn fit_exactly(random: &mut Random, script: &mut Script, lind: i32) {
     }
 }
 
-/// A series of appends good and bad to a created file or to one in order: all entries are read before and after, and
-/// the order is checked.
+/// A series of appends good and bad.
 fn series(random: &mut Random, script: &mut Script) {
+    let lind = begin_series(random, script);
+    for _ in 0..random.from(4, 40) {
+        append(random, script, lind, 4);
+    }
+    end_series(script);
+}
+
+/// Begins a series with a created file or with one in order, of which all entries are read; gives the file's lind.
+pub fn begin_series(random: &mut Random, script: &mut Script) -> i32 {
     let mut shape = files::shape(random, script.order);
     shape.settings.lex1 += random.pick(&[0, 1, 6]);
     shape.spare_records = 1 + random.from(100, 9000) / shape.settings.reclen as usize;
@@ -552,9 +577,11 @@ fn series(random: &mut Random, script: &mut Script) {
         script.call(Call::Create(shape.settings));
     }
     read_all(script);
-    for _ in 0..random.from(4, 40) {
-        append(random, script, shape.settings.lind, 4);
-    }
+    shape.settings.lind
+}
+
+/// Ends a series: all entries are read, and the order is checked.
+pub fn end_series(script: &mut Script) {
     read_all(script);
     script.call(Call::Check);
 }

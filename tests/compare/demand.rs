@@ -1,8 +1,9 @@
 //! Demand 3 on a series, from the library's answers and files alone: what is read after the appends is what was read
-//! before them and then what the accepted appends were given, numbered on, and the order check passes.
+//! before them and then what the accepted appends were given, numbered on, and the order check passes. A batch counts
+//! as its appends.
 
 use crate::driver::Given;
-use crate::reference::Addition;
+use crate::reference::{entries_of, Addition, Batch};
 use crate::script::{Asked, Call};
 
 /// What an entry holds: version, application index words, sections in order with their identifiers, data.
@@ -12,6 +13,16 @@ struct Content {
     index: Vec<u8>,
     sections: Vec<(i32, Vec<u8>)>,
     data: Vec<u8>,
+}
+
+/// The appends that a call made, accepted and refused: of a batch the first refused is the last, and 26 makes none.
+pub fn appends(call: &Call, fields: &[u64]) -> (u64, u64) {
+    match call {
+        Call::Append(_) if fields[0] == 0 => (1, 0),
+        Call::Append(_) => (0, 1),
+        Call::AppendBatch(_) => (fields[1], ![0, 26].contains(&fields[0]) as u64),
+        _ => (0, 0),
+    }
 }
 
 /// Gives the fault of a series, if there is one; lent is the file that the series began with.
@@ -24,6 +35,10 @@ pub fn fault(lent: &[u8], asked: &[Asked], given: &[Given]) -> Option<String> {
             Call::Append(a) => {
                 appended = true;
                 accepted(&mut wanted, a, &given.fields)
+            }
+            Call::AppendBatch(b) => {
+                appended = true;
+                accepted_of(&mut wanted, b, &given.fields)
             }
             Call::Check if given.fields != [0, 0] => Err("the order check does not pass"),
             call => reading(if appended { &mut read } else { &mut wanted }, call, &given.fields, file),
@@ -45,6 +60,22 @@ fn accepted(contents: &mut Vec<Content>, a: &Addition, fields: &[u64]) -> Result
     contents.push(content(a).ok_or("accepted with lengths that are not those of its sections")?);
     if fields[1] != contents.len() as u64 {
         return Err("accepted with another number than the next");
+    }
+    Ok(())
+}
+
+/// Adds what the accepted entries of a batch were given to the contents.
+fn accepted_of(contents: &mut Vec<Content>, b: &Batch, fields: &[u64]) -> Result<(), &'static str> {
+    let (refusal, count) = (fields[0], fields[1] as usize);
+    let entries = entries_of(b).unwrap_or_default();
+    if count > entries.len() {
+        return Err("more accepted than its counts cut off");
+    }
+    if refusal == 0 && count < entries.len() {
+        return Err("not all accepted, without a refusal");
+    }
+    for a in &entries[..count] {
+        contents.push(content(a).ok_or("accepted with lengths that are not those of its sections")?);
     }
     Ok(())
 }

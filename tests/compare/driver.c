@@ -3,8 +3,9 @@
 
    A case is its size (8 bytes) and its steps; numbers are little-endian. Steps: 'F' total, count, bytes: lends a file
    of total bytes that begins with these; 'A': the file as it was lent; 'P' place, count, bytes: changes the file;
-   '0' to '8': a call, with a byte that says whether empty slices are (NULL, 0), and its arguments. Each field of an
-   answer is 8 bytes; after create and append the count and the bytes of the file's part that 'F' gave follow. */
+   '0' to '9': a call, with a byte that says whether empty slices are (NULL, 0), and its arguments. Each field of an
+   answer is 8 bytes; after create, append and append_batch the count and the bytes of the file's part that 'F' gave
+   follow. */
 #define _DEFAULT_SOURCE
 #include "classic.h"
 
@@ -239,6 +240,28 @@ static void call_append(uint8_t *bytes, int null) {
     give_back(&data);
 }
 
+/* Appends the batch that the case gives, each array in a block of its own; a row of counts has 40 bytes. */
+static void call_append_batch(uint8_t *bytes, int null) {
+    block versions = take_block(4), counts = take_block(40), index = take_block(1), ids = take_block(4);
+    block lengths = take_block(8), sections = take_block(1), data = take_block(1);
+    allow(&file, PROT_READ | PROT_WRITE);
+    classic_batched b = classic_append_batch(
+        bytes, file.size, pointer(&versions, null), versions.size / 4, pointer(&counts, null), counts.size / 40,
+        pointer(&index, null), index.size, pointer(&ids, null), ids.size / 4, pointer(&lengths, null), lengths.size / 8,
+        pointer(&sections, null), sections.size, pointer(&data, null), data.size);
+    allow(&file, PROT_READ);
+    put(b.refusal);
+    put(b.accepted);
+    put_file();
+    give_back(&versions);
+    give_back(&counts);
+    give_back(&index);
+    give_back(&ids);
+    give_back(&lengths);
+    give_back(&sections);
+    give_back(&data);
+}
+
 /* Makes the call of a number. */
 static void call(int which) {
     int null = (int)take_number(1);
@@ -253,6 +276,7 @@ static void call(int which) {
     case '6': put_part(classic_data(bytes, file.size, take_number(8))); break;
     case '7': call_check(bytes); break;
     case '8': call_append(bytes, null); break;
+    case '9': call_append_batch(bytes, null); break;
     default: give_up("a step that is not known");
     }
     if (fflush(stdout) != 0) give_up("standard output");

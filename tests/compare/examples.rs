@@ -1,11 +1,12 @@
 //! The examples that document 01 works by hand, with the capacities of Q-2 in document 02 and in both orders of Q-4, and
-//! those of Q-7, as the first cases: the reference must give the numbers and bytes written here, and the library is
-//! compared with the reference.
+//! those of, as the first cases: the reference must give the numbers and bytes written here, and the
+//! library is compared with the reference.
 
 use crate::files::make_full;
 use crate::random::Random;
-use crate::reference::{Addition, Order, Settings};
+use crate::reference::{Addition, Batch, Order, Settings};
 use crate::script::{Call, Script};
+use crate::sweeps::laid;
 
 /// The settings of file A in an order, with another reclen, lind, lex1 and gex.
 fn settings(order: Order, reclen: i32, lind: i32, lex1: i32, gex: i32) -> Settings {
@@ -41,6 +42,8 @@ pub fn examples(_: &mut Random, script: &mut Script) {
     great_capacities(script);
     limits(script);
     leftovers(script);
+    batches(script);
+    a_by_a_batch(script);
 }
 
 /// P1 to P5 and the listing: file A, and with a record fewer.
@@ -180,6 +183,41 @@ fn leftovers(script: &mut Script) {
             expect(script, "Q-7, an index area broken too", Call::Validate, &[11, 0, 0]);
             expect(script, "Q-7, creation", Call::Create(settings), &[0]);
             expect(script, "Q-7, after creation", Call::Check, &[0, 0]);
+        }
+    }
+}
+
+/// batches of no entries and of 65 over 10 bytes, and with lind 4 batches of two entries with 4 and 8 index bytes,
+/// and with 8 and none.
+fn batches(script: &mut Script) {
+    let with_index = |index: &[u64]| {
+        Call::AppendBatch(Batch {
+            versions: vec![1; index.len()],
+            counts: index.iter().map(|&count| [count, 0, 0, 0, 0]).collect(),
+            index: (0..index.iter().sum::<u64>() as u8).collect(),
+            ..Batch::default()
+        })
+    };
+    script.lend(&[0; 10], 10);
+    expect(script, "Q-1, no entries", with_index(&[]), &[0, 0]);
+    expect(script, "Q-1, 65 entries", with_index(&[0; 65]), &[26, 0]);
+    for (example, index, accepted) in [("Q-1, 4 and 8", [4, 8], 1), ("Q-1, 8 and none", [8, 0], 0)] {
+        script.lend(&[0xff; 480], 480);
+        expect(script, "creating A", Call::Create(settings(script.order, 20, 4, 2, 20)), &[0]);
+        expect(script, example, with_index(&index), &[21, accepted]);
+        expect(script, example, Call::Open(1), &[if accepted == 1 { 0 } else { 12 }]);
+    }
+}
+
+/// file A by one batch, and with a record fewer.
+fn a_by_a_batch(script: &mut Script) {
+    for (records, fields) in [(6, [0, 3]), (5, [24, 2])] {
+        script.lend(&vec![0xff; 80 * records], 80 * records);
+        expect(script, "creating A", Call::Create(settings(script.order, 20, 4, 2, 20)), &[0]);
+        expect(script, "A by a batch", Call::AppendBatch(laid(&additions())), &fields);
+        expect(script, "A by a batch", Call::Check, &[0, 0]);
+        if records == 6 {
+            bytes_of_a(script);
         }
     }
 }

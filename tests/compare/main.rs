@@ -2,6 +2,7 @@
 //! Usage: compare [--seed N] [--case K] DRIVER...: all cases of a seed, or one, with the command that runs the driver.
 
 mod additions;
+mod batches;
 mod cases;
 mod damage;
 mod demand;
@@ -11,6 +12,7 @@ mod files;
 mod random;
 mod reference;
 mod script;
+mod sweeps;
 mod table;
 
 use driver::{Driver, Given};
@@ -50,13 +52,14 @@ struct Comparison {
     table: Table,
 }
 
-/// The series of one order: how many, how many that fail demand 3, and the appends in them.
+/// The series of one order: how many, how many that fail demand 3, and the appends in them, those of batches too.
 #[derive(Default)]
 struct Series {
     made: usize,
     failed: usize,
-    accepted: usize,
-    refused: usize,
+    batches: usize,
+    accepted: u64,
+    refused: u64,
 }
 
 /// Tests that passed and failed.
@@ -120,12 +123,14 @@ impl Comparison {
 
     /// Holds a series to demand 3.
     fn compare_series(&mut self, case: usize, script: &Script, given: &[Given]) {
-        let appends = script.asked.iter().zip(given).filter(|(asked, _)| matches!(asked.call, Call::Append(_)));
-        let (accepted, refused): (Vec<_>, Vec<_>) = appends.partition(|(_, given)| given.fields[0] == 0);
         let series = &mut self.series[script.order as usize];
         series.made += 1;
-        series.accepted += accepted.len();
-        series.refused += refused.len();
+        for (asked, given) in script.asked.iter().zip(given) {
+            let (accepted, refused) = demand::appends(&asked.call, &given.fields);
+            series.batches += matches!(asked.call, Call::AppendBatch(_)) as usize;
+            series.accepted += accepted;
+            series.refused += refused;
+        }
         if let Some(fault) = demand::fault(&script.lent, &script.asked, given) {
             series.failed += 1;
             self.show(case, given.len() - 1, &format!("demand 3: {fault}"));
@@ -189,10 +194,11 @@ impl Comparison {
         for (call, name) in CALLS.iter().enumerate() {
             judge(name, "calls", self.calls[call], self.differing[call]);
         }
-        judge("bytes", "files after create and append", self.files, self.differing_files);
+        judge("bytes", "files after create, append and append_batch", self.files, self.differing_files);
         for (order, series) in Order::BOTH.iter().zip(&self.series) {
-            let appends = format!("series with {} appends accepted and {} refused", series.accepted, series.refused);
-            judge(&format!("demand 3, {}", order.name()), &appends, series.made, series.failed);
+            let appends = format!("{} appends accepted and {} refused", series.accepted, series.refused);
+            let things = format!("series with {} batches, {appends}", series.batches);
+            judge(&format!("demand 3, {}", order.name()), &things, series.made, series.failed);
         }
     }
 

@@ -1,6 +1,6 @@
-//! The independent implementation of document 01, with the capacities of Q-2, the byte orders of Q-4 and the leftovers of
-//! Q-7 in document 02, plain and slow, over the lent bytes of a file: written from these papers and the memo alone. Every
-//! number is an i128, so that no sum or product of stored numbers can wrap.
+//! The independent implementation of document 01, with the batches of Q-1, the capacities of Q-2, the byte orders of
+//! Q-4 and the leftovers of Q-7 in document 02, plain and slow, over the lent bytes of a file: written from these papers
+//! and the memo alone. Every number is an i128, so that no sum or product of stored numbers or of counts can wrap.
 
 /// The code of an entry, in files of both orders.
 pub const ENTRY_CODE: [u8; 4] = [0x32, 0x20, 0x20, 0x20];
@@ -86,6 +86,28 @@ pub struct Addition {
     pub sections: Vec<u8>,
     pub data: Vec<u8>,
 }
+
+/// What a batch takes: a version and a row of counts for each entry, and all that the entries are given, each kind laid
+/// end to end. A row counts index bytes, identifiers, lengths, section bytes and data bytes.
+#[derive(Clone, Debug, Default)]
+pub struct Batch {
+    pub versions: Vec<i32>,
+    pub counts: Vec<[u64; 5]>,
+    pub index: Vec<u8>,
+    pub ids: Vec<i32>,
+    pub lengths: Vec<i64>,
+    pub sections: Vec<u8>,
+    pub data: Vec<u8>,
+}
+
+/// The ways in which a column of a batch's counts does not use up its lent array: something is left, or lacking.
+const NOT_USED_UP: [[&str; 2]; 5] = [
+    ["index bytes left", "index bytes lacking"],
+    ["identifiers left", "identifiers lacking"],
+    ["lengths left", "lengths lacking"],
+    ["section bytes left", "section bytes lacking"],
+    ["data bytes left", "data bytes lacking"],
+];
 
 /// Gives a refusal.
 fn refuse<T>(number: u32, way: &'static str) -> Result<T, Refusal> {
@@ -704,4 +726,66 @@ fn entry_words(order: Order, number: i128, a: &Addition) -> Vec<u8> {
     words.extend(&a.sections);
     words.extend(&a.data);
     words
+}
+
+impl Batch {
+    /// The counts of elements of the lent arrays, in the order of a row.
+    pub fn lent(&self) -> [usize; 5] {
+        [self.index.len(), self.ids.len(), self.lengths.len(), self.sections.len(), self.data.len()]
+    }
+}
+
+/// Refusal 26: what is handed to a batch.
+fn test_batch(b: &Batch) -> Result<(), Refusal> {
+    if b.versions.len() > 64 {
+        return refuse(26, "over 64 entries");
+    }
+    if b.counts.len() != b.versions.len() {
+        return refuse(26, "counts and versions not as many");
+    }
+    for (column, lent) in b.lent().into_iter().enumerate() {
+        let counted: i128 = b.counts.iter().map(|row| row[column] as i128).sum();
+        let [left, lacking] = NOT_USED_UP[column];
+        if counted < lent as i128 {
+            return refuse(26, left);
+        }
+        if counted > lent as i128 {
+            return refuse(26, lacking);
+        }
+    }
+    Ok(())
+}
+
+/// Takes so many elements off what is left of an array.
+fn take<T: Clone>(left: &mut &[T], count: u64) -> Vec<T> {
+    let (taken, rest) = left.split_at(count as usize);
+    *left = rest;
+    taken.to_vec()
+}
+
+/// What each entry of a batch is given, its counts off what the entries before it left of each array; or refusal 26.
+pub fn entries_of(b: &Batch) -> Result<Vec<Addition>, Refusal> {
+    test_batch(b)?;
+    let (mut index, mut ids, mut lengths) = (&b.index[..], &b.ids[..], &b.lengths[..]);
+    let (mut sections, mut data) = (&b.sections[..], &b.data[..]);
+    let entries = b.versions.iter().zip(&b.counts).map(|(&version, row)| Addition {
+        version,
+        index: take(&mut index, row[0]),
+        ids: take(&mut ids, row[1]),
+        lengths: take(&mut lengths, row[2]),
+        sections: take(&mut sections, row[3]),
+        data: take(&mut data, row[4]),
+    });
+    Ok(entries.collect())
+}
+
+/// Appends a batch: refusal 26, then entry after entry up to the first refusal. Answers how many were accepted, and a
+/// refusal comes with that number too.
+pub fn append_batch(file: &mut [u8], b: &Batch) -> Result<u64, (u64, Refusal)> {
+    let mut accepted = 0;
+    for a in entries_of(b).map_err(|refusal| (0, refusal))? {
+        append(file, &a).map_err(|refusal| (accepted, refusal))?;
+        accepted += 1;
+    }
+    Ok(accepted)
 }

@@ -1,11 +1,11 @@
 //! A script is one case: a file, changes to it and calls, as the driver reads them, and for each call the answer
 //! that the reference gives at that place.
 
-use crate::reference::{self, Addition, Order, Refusal, Settings};
+use crate::reference::{self, Addition, Batch, Order, Refusal, Settings};
 
 /// The calls of the interface, in the order of their numbers in the driver's protocol.
-pub const CALLS: [&str; 9] =
-    ["create", "validate", "extension_of", "open", "index_words", "section", "data", "check", "append"];
+pub const CALLS: [&str; 10] =
+    ["create", "validate", "extension_of", "open", "index_words", "section", "data", "check", "append", "append_batch"];
 
 /// One call with its arguments, the file aside.
 #[derive(Clone, Debug)]
@@ -19,6 +19,7 @@ pub enum Call {
     Data(u64),
     Check,
     Append(Addition),
+    AppendBatch(Batch),
 }
 
 /// An answer: every field in the header's order, and for the table the refusal with the way it came about.
@@ -28,8 +29,8 @@ pub struct Answer {
     pub fields: Vec<u64>,
 }
 
-/// A call of a script, the order that it counts for, the reference's answer, and after a creation or append the file's
-/// bytes.
+/// A call of a script, the order that it counts for, the reference's answer, and after a creation, append or batch the
+/// file's bytes.
 pub struct Asked {
     pub order: Order,
     pub call: Call,
@@ -60,6 +61,20 @@ impl Answer {
     }
 }
 
+impl Asked {
+    /// Where in a batch the entry stands that ended it: 0 is the first place, 1 one between, 2 the last.
+    pub fn place(&self) -> Option<usize> {
+        match &self.call {
+            Call::AppendBatch(b) if (21..=24).contains(&self.answer.refusal) => match self.answer.fields[1] as usize {
+                0 => Some(0),
+                accepted if accepted + 1 < b.versions.len() => Some(1),
+                _ => Some(2),
+            },
+            _ => None,
+        }
+    }
+}
+
 impl Call {
     /// The call's place in CALLS.
     pub fn number(&self) -> usize {
@@ -73,6 +88,7 @@ impl Call {
             Call::Data(_) => 6,
             Call::Check => 7,
             Call::Append(_) => 8,
+            Call::AppendBatch(_) => 9,
         }
     }
 
@@ -89,6 +105,7 @@ impl Call {
             Call::IndexWords(_) | Call::Section(..) | Call::Data(_) => &["refusal", "start", "length"],
             Call::Check => &["entry", "refusal"],
             Call::Append(_) => &["refusal", "number"],
+            Call::AppendBatch(_) => &["refusal", "accepted"],
         };
         let past = i.wrapping_sub(names.len());
         match self {
@@ -110,11 +127,17 @@ impl Call {
                 a.sections.len(),
                 a.data.len()
             ),
+            Call::AppendBatch(b) => format!(
+                "append_batch ({} versions, counts {:?}, lent {:?}: index bytes, ids, lengths, section and data bytes)",
+                b.versions.len(),
+                b.counts,
+                b.lent()
+            ),
             _ => format!("{self:?}"),
         }
     }
 
-    /// The reference's answer; create and append change the file.
+    /// The reference's answer; create, append and append_batch change the file.
     fn answer(&self, file: &mut [u8]) -> Answer {
         match self {
             Call::Create(settings) => refusal_first(reference::create(file, settings).map(|()| vec![]), 0),
@@ -128,6 +151,7 @@ impl Call {
             Call::Data(k) => part(reference::data(file, *k)),
             Call::Check => check(reference::check(file)),
             Call::Append(a) => refusal_first(reference::append(file, a).map(|number| vec![number as i128]), 1),
+            Call::AppendBatch(b) => batched(reference::append_batch(file, b)),
         }
     }
 
@@ -149,14 +173,30 @@ impl Call {
             Call::Validate | Call::Check => {}
             Call::Append(a) => {
                 out.extend(a.version.to_le_bytes());
-                let ids: Vec<u8> = a.ids.iter().flat_map(|id| id.to_le_bytes()).collect();
-                let lengths: Vec<u8> = a.lengths.iter().flat_map(|length| length.to_le_bytes()).collect();
-                for part in [&a.index, &ids, &lengths, &a.sections, &a.data] {
+                for part in [&a.index, &bytes4(&a.ids), &bytes8(&a.lengths), &a.sections, &a.data] {
                     encode_bytes(out, part);
                 }
             }
+            Call::AppendBatch(b) => {
+                let counts: Vec<u8> = b.counts.iter().flatten().flat_map(|count| count.to_le_bytes()).collect();
+                for part in [&bytes4(&b.versions), &counts, &b.index, &bytes4(&b.ids), &bytes8(&b.lengths)] {
+                    encode_bytes(out, part);
+                }
+                encode_bytes(out, &b.sections);
+                encode_bytes(out, &b.data);
+            }
         }
     }
+}
+
+/// The bytes of a list of Integer*4 for the driver.
+fn bytes4(values: &[i32]) -> Vec<u8> {
+    values.iter().flat_map(|value| value.to_le_bytes()).collect()
+}
+
+/// The bytes of a list of Integer*8 for the driver.
+fn bytes8(values: &[i64]) -> Vec<u8> {
+    values.iter().flat_map(|value| value.to_le_bytes()).collect()
 }
 
 /// Writes a count of bytes and the bytes.
@@ -187,6 +227,16 @@ fn check(result: Result<(), (u64, Refusal)>) -> Answer {
         Ok(()) => Answer { refusal: 0, way: "", fields: vec![0, 0] },
         Err((entry, refusal)) => {
             Answer { refusal: refusal.number, way: refusal.way, fields: vec![entry, refusal.number as u64] }
+        }
+    }
+}
+
+/// The answer of a batch: a refused one says how many entries were accepted too.
+fn batched(result: Result<u64, (u64, Refusal)>) -> Answer {
+    match result {
+        Ok(accepted) => Answer { refusal: 0, way: "", fields: vec![0, accepted] },
+        Err((accepted, refusal)) => {
+            Answer { refusal: refusal.number, way: refusal.way, fields: vec![refusal.number as u64, accepted] }
         }
     }
 }
@@ -251,7 +301,7 @@ impl Script {
         let order = self.order_of(&call);
         let answer = call.answer(&mut self.file);
         let refusal = answer.refusal;
-        let changes = matches!(call, Call::Create(_) | Call::Append(_));
+        let changes = matches!(call, Call::Create(_) | Call::Append(_) | Call::AppendBatch(_));
         let after = if changes { Some(self.file[..self.lent.len()].to_vec()) } else { None };
         self.asked.push(Asked { order, call, answer, after });
         refusal

@@ -6,7 +6,7 @@ use crate::script::{Asked, CALLS};
 use std::collections::BTreeMap;
 
 /// The refusals that each call admits, in the order of CALLS: first to last, both included; 0 is acceptance.
-const ADMITTED: [&[(u32, u32)]; 9] = [
+const ADMITTED: [&[(u32, u32)]; 10] = [
     &[(0, 8)],
     &[(0, 11), (29, 29)],
     &[(0, 12), (29, 29)],
@@ -16,11 +16,12 @@ const ADMITTED: [&[(u32, u32)]; 9] = [
     &[(0, 19), (29, 29)],
     &[(0, 11), (13, 19), (25, 25), (29, 29)],
     &[(0, 11), (21, 24), (29, 29)],
+    &[(0, 11), (21, 24), (26, 26), (29, 29)],
 ];
 
 /// The parts of the refusals' sentences in 01 and 02: each must have been the reason of a refusal at least once in each
 /// order.
-const WAYS: [(u32, &[&str]); 26] = [
+const WAYS: [(u32, &[&str]); 27] = [
     (1, &["fewer than 64 bytes"]),
     (2, &["code", "order"]),
     (3, &["reclen"]),
@@ -70,22 +71,54 @@ const WAYS: [(u32, &[&str]); 26] = [
             "the last past the next area's start",
         ],
     ),
+    (
+        26,
+        &[
+            "over 64 entries",
+            "counts and versions not as many",
+            "index bytes left",
+            "index bytes lacking",
+            "identifiers left",
+            "identifiers lacking",
+            "lengths left",
+            "lengths lacking",
+            "section bytes left",
+            "section bytes lacking",
+            "data bytes left",
+            "data bytes lacking",
+        ],
+    ),
     (29, &["in a place of an address", "past the places of addresses"]),
 ];
+
+/// The places in a batch at which an entry may be refused: each way of 21 to 24 must have ended a batch at each of them
+/// in each order.
+const PLACES: [&str; 3] = ["first", "between", "last"];
 
 /// How often something was seen in each order, by the order's number.
 type Seen = [usize; 2];
 
-/// How often each cell and each way was seen.
+/// How often each cell, each way, and each way at a place in a batch was seen.
 #[derive(Default)]
 pub struct Table {
     cells: BTreeMap<(usize, u32), Seen>,
     ways: BTreeMap<(u32, &'static str), Seen>,
+    places: BTreeMap<(u32, &'static str, usize), Seen>,
 }
 
 /// 0 and the refusals, in the order of their numbers.
 fn refusals() -> impl Iterator<Item = u32> {
-    (0..=25).chain([29])
+    (0..=26).chain([29])
+}
+
+/// Every way with the number of its refusal.
+fn all_ways() -> impl Iterator<Item = (u32, &'static str)> {
+    WAYS.into_iter().flat_map(|(refusal, ways)| ways.iter().map(move |&way| (refusal, way)))
+}
+
+/// The ways in which an entry is refused within a batch.
+fn ways_within() -> impl Iterator<Item = (u32, &'static str)> {
+    all_ways().filter(|(refusal, _)| (21..=24).contains(refusal))
 }
 
 /// Says whether 01 and 02 admit a refusal as a call's answer.
@@ -101,6 +134,9 @@ impl Table {
         if refusal != 0 {
             self.ways.entry((refusal, asked.answer.way)).or_default()[order] += 1;
         }
+        if let Some(place) = asked.place() {
+            self.places.entry((refusal, asked.answer.way, place)).or_default()[order] += 1;
+        }
     }
 
     /// How often a cell was seen.
@@ -111,6 +147,11 @@ impl Table {
     /// How often a way was seen.
     fn way(&self, refusal: u32, way: &'static str) -> Seen {
         self.ways.get(&(refusal, way)).copied().unwrap_or_default()
+    }
+
+    /// How often a way ended a batch at a place.
+    fn place(&self, refusal: u32, way: &'static str, place: usize) -> Seen {
+        self.places.get(&(refusal, way, place)).copied().unwrap_or_default()
     }
 
     /// Prints the table, a line for each refusal, with the little order before the big one; a point stands where
@@ -129,6 +170,11 @@ impl Table {
             let seen: Vec<String> = seen.map(|(way, [little, big])| format!("{way} {little}/{big}")).collect();
             println!("{refusal:>7} {}", seen.join("; "));
         }
+        for (refusal, way) in ways_within() {
+            let seen = (0..PLACES.len()).map(|place| (PLACES[place], self.place(refusal, way, place)));
+            let seen: Vec<String> = seen.map(|(place, [little, big])| format!("{place} {little}/{big}")).collect();
+            println!("{refusal:>7} in a batch, {way}: {}", seen.join("; "));
+        }
     }
 
     /// The cells that are empty and should not be, and those that are not admitted.
@@ -146,11 +192,20 @@ impl Table {
         wrong
     }
 
-    /// The ways that were never seen in one of the orders.
+    /// The ways, and the ways at a place in a batch, that were never seen in one of the orders.
     pub fn missing_ways(&self) -> Vec<String> {
-        let all = WAYS.iter().flat_map(|&(refusal, ways)| ways.iter().map(move |&way| (refusal, way)));
-        let of_both = all.flat_map(|(refusal, way)| Order::BOTH.map(|order| (refusal, way, order)));
-        let missing = of_both.filter(|&(refusal, way, order)| self.way(refusal, way)[order as usize] == 0);
-        missing.map(|(refusal, way, order)| format!("{refusal}: {way}, {}", order.name())).collect()
+        let mut missing = vec![];
+        for order in Order::BOTH {
+            let never = |seen: Seen| seen[order as usize] == 0;
+            for (refusal, way) in all_ways().filter(|&(refusal, way)| never(self.way(refusal, way))) {
+                missing.push(format!("{refusal}: {way}, {}", order.name()));
+            }
+            for (refusal, way) in ways_within() {
+                for place in (0..PLACES.len()).filter(|&place| never(self.place(refusal, way, place))) {
+                    missing.push(format!("{refusal}: {way}, {} in a batch, {}", PLACES[place], order.name()));
+                }
+            }
+        }
+        missing
     }
 }

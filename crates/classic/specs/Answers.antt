@@ -18,12 +18,16 @@ use Rattle.order.specs.declared.answers.Checked.{Checked}
 use Rattle.writer.specs.declared.appending.Appended.{Appended}
 use Rattle.storing.specs.Handed.{Handed}
 use Rattle.writer.specs.Answers.{appendOf, fileAfter}
+use Rattle.batch.specs.declared.batching.Batched.{Batched}
+use Rattle.batch.specs.Batch.{Batch}
+use Rattle.batch.specs.Answers.{batchOf, fileAfterBatch}
 use Rattle.classic.specs.declared.answers.ClassicDescriptor.{ClassicDescriptor}
 use Rattle.classic.specs.declared.answers.ClassicExtension.{ClassicExtension}
 use Rattle.classic.specs.declared.answers.ClassicEntry.{ClassicEntry}
 use Rattle.classic.specs.declared.answers.ClassicPart.{ClassicPart}
 use Rattle.classic.specs.declared.answers.ClassicChecked.{ClassicChecked}
 use Rattle.classic.specs.declared.answers.ClassicAppended.{ClassicAppended}
+use Rattle.classic.specs.declared.answers.ClassicBatched.{ClassicBatched}
 use Rattle.classic.specs.declared.answers.ClassicSettings.{ClassicSettings}
 
 -- the numbers of a table of records
@@ -96,6 +100,14 @@ appendedFor x = record { refusal = x .refusal; number = x .number .0 }
 -- what `classic_append` promises: the answer of the append field by field, and the file after it
 abbrev pub AppendsForC : List ℕ → Handed → ClassicAppended → List ℕ → Type 0
 AppendsForC file h answer after = AnswersAndLeaves (appendedFor (appendOf file h)) (fileAfter file h) answer after
+
+-- a batch, field by field
+abbrev pub batchedFor : Batched → ClassicBatched
+batchedFor x = record { refusal = x .refusal; accepted = x .accepted }
+
+-- what `classic_append_batch` promises: the answer of the batch field by field, and the file after it
+abbrev pub AppendsBatchForC : List ℕ → Batch → ClassicBatched → List ℕ → Type 0
+AppendsBatchForC file b answer after = AnswersAndLeaves (batchedFor (batchOf file b)) (fileAfterBatch file b) answer after
 
 -- the settings that C hands in, field by field
 abbrev pub settingsFrom : ClassicSettings → Settings

@@ -63,6 +63,13 @@ pub struct ClassicAppended {
     pub number: u64,
 }
 
+// A batch: the refusal, and how many of its entries were accepted.
+#[repr(C)]
+pub struct ClassicBatched {
+    pub refusal: u32,
+    pub accepted: u64,
+}
+
 // An order check: the first entry that fails, and its refusal.
 #[repr(C)]
 pub struct ClassicChecked {

@@ -15,6 +15,7 @@ mod tables;
 mod validating;
 
 pub use answers::ClassicAppended;
+pub use answers::ClassicBatched;
 pub use answers::ClassicChecked;
 pub use answers::ClassicDescriptor;
 pub use answers::ClassicEntry;
@@ -22,6 +23,9 @@ pub use answers::ClassicExtension;
 pub use answers::ClassicPart;
 pub use answers::ClassicSettings;
 pub use appending::classic_append;
+pub use appending::classic_append_batch;
+pub use batch::Batched;
+pub use batch::append_batch;
 pub use checking::classic_check;
 pub use creating::classic_create;
 pub use descriptor::DescriptorNumbers;

@@ -1,5 +1,6 @@
 -- What `validate` and `extension_of` answer.
 use Prim.Native.Nat.{ℕ}
+use mathlib.Core.Path.{_≡_}
 use mathlib.Core.Bool.{cond, _&&_}
 use mathlib.Core.List.{List}
 use lib.ListN.{replicate}
@@ -27,6 +28,10 @@ validationOf file =
     let n = fileRefusal file in
     let d = numbersOf file in
     cond (eqb n 0) (record { refusal = 0; numbers = Numbers d; addresses = addressesOf file (d .nex) }) (noValidation n)
+
+-- a file validates with these numbers and addresses
+abbrev pub Validates : List ℕ → DescriptorNumbers → List RecordNumber → Type 0
+Validates file d addresses = validationOf file ≡ record { refusal = 0; numbers = Numbers d; addresses = addresses }
 
 -- numbers that are all zero
 abbrev pub noNumbers : DescriptorNumbers

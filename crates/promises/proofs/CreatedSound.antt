@@ -8,7 +8,7 @@ use Rattle.descriptor.specs.declared.numbers.DescriptorNumbers.{DescriptorNumbe
 use Rattle.descriptor.specs.FirstRecord.{createdOf}
 use Rattle.order.specs.Order.{allPass, checkedFrom, checkedIn, checkOf}
 use Rattle.writer.specs.Creation.{creationRefusal, createdFile}
-use Rattle.written.proofs.ReadBack.{Validates}
+use Rattle.descriptor.specs.Answers.{Validates}
 use Rattle.written.proofs.CreatedBack.{noAddresses, created-validated}
 use Rattle.promises.specs.Contents.{contents}
 use Rattle.promises.specs.Regions.{Sound}

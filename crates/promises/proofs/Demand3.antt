@@ -14,7 +14,8 @@ use Rattle.promises.specs.Demand.{Start, Promised}
 use Rattle.promises.proofs.OpenEntries.{OpenEntry, open-shown}
 use Rattle.promises.proofs.OrderSound.{order-sound}
 use Rattle.promises.proofs.OrderAgain.{run-ordered}
-use Rattle.promises.proofs.Series.{entries-shown, run-sound, run-contents, run-stays, run-numbers}
+use Rattle.promises.proofs.Adding.{entries-shown}
+use Rattle.promises.proofs.Series.{run-sound, run-contents, run-stays, run-found, run-numbered}
 use Rattle.promises.proofs.CreatedSound.{created-check}
 
 -- every entry of a sound file opens
@@ -39,7 +40,8 @@ demand-3 calls g file start =
     record {
       kept = run-contents calls g file s;
       stays = run-stays calls g file s;
-      numbered = run-numbers calls g file s;
+      found = run-found calls g file s;
+      numbered = run-numbered calls g file s;
       opened = sound-opens (run calls file) after;
       apart = after .inside .apart;
       ordered = run-ordered calls g file c;

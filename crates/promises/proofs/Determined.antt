@@ -15,6 +15,9 @@ use Rattle.writer.specs.declared.inner.AppendedFrom.{AppendedFrom}
 use Rattle.writer.specs.Creation.{Creates}
 use Rattle.storing.specs.Handed.{Handed}
 use Rattle.writer.specs.Answers.{Appends, AppendsFrom}
+use Rattle.batch.specs.declared.batching.Batched.{Batched}
+use Rattle.batch.specs.Batch.{Batch}
+use Rattle.batch.specs.Answers.{AppendsBatch}
 use Rattle.listing.specs.Listing.{Lists, Prints}
 
 -- a creation has one outcome
@@ -29,6 +32,10 @@ append-determined file h p q f g a b = one-outcome a b
 pub append-from-determined : (file : List ℕ) (d : DescriptorNumbers) (addresses : List RecordNumber) (h : Handed) (p q : AppendedFrom) (f g : List ℕ)
     → AppendsFrom file d addresses h p f → AppendsFrom file d addresses h q g → (p ≡ q) × (f ≡ g)
 append-from-determined file d addresses h p q f g a b = one-outcome a b
+
+-- and a batch of them
+pub batch-determined : (file : List ℕ) (b : Batch) (p q : Batched) (f g : List ℕ) → AppendsBatch file b p f → AppendsBatch file b q g → (p ≡ q) × (f ≡ g)
+batch-determined file b p q f g x y = one-outcome x y
 
 -- a listing has one outcome, whatever the buffer held
 pub list-determined : (file out : List ℕ) (p q : ℕ) (f g : List ℕ) → Lists file out p f → Lists file out q g → (p ≡ q) × (f ≡ g)

@@ -14,7 +14,7 @@ use Rattle.entry.proofs.Opened.{open-numbers}
 use Rattle.handing.specs.Parts.{partIn, pieceFrom, bytesOf}
 use Rattle.alike.proofs.Described.{Describes, open-there}
 use Rattle.alike.proofs.Agreeing.{Agrees, index-there, piece-there, data-part-there}
-use Rattle.written.proofs.ReadBack.{Validates}
+use Rattle.descriptor.specs.Answers.{Validates}
 use Rattle.promises.specs.Contents.{openedIn, startIn, pieceAt, readingOf, slotIn, slotBytes, entryBytes, Unchanged}
 use Rattle.promises.proofs.Readings.{numbers-shown, reading-alike}
 use Rattle.promises.proofs.OpenEntries.{OpenEntry, stored, open-shown, start-shown, piece-shown, piece-placed}

@@ -1,9 +1,9 @@
 -- What the contracts exclude. Each theorem takes any outcome of a call, for every input, that meets the call's contract. So it is ruled out that a reader or a writer
--- refuses everything, that an open gives one fixed entry, that an append answers a number and writes nothing or stores only the first entry, and that a listing has a
--- made-up number of entries. Assumes nothing.
+-- refuses everything, that an open gives one fixed entry, that an append answers a number and writes nothing or stores only the first entry, that a batch stores
+-- other entries than its own, and that a listing has a made-up number of entries. Assumes nothing.
 use Prim.Native.Nat.{ℕ, _+_, _≤_, _<_}
 use mathlib.Core.Path.{_≡_, sym, ap, _∙_}
-use mathlib.Core.List.{List, [], _∷_, append-nil}
+use mathlib.Core.List.{List, [], _∷_, _++_, map, append-nil}
 use native.Mathlib.Omega.{arith}
 use lib.ListN.{length, take, length-append}
 use Rattle.outcome.specs.Outcome.{Answers}
@@ -16,6 +16,7 @@ use Rattle.descriptor.specs.Refusal.{AllHold}
 use Rattle.descriptor.specs.FirstRecord.{numbersOf, addressesOf}
 use Rattle.descriptor.specs.Rules.{fileRefusal}
 use Rattle.descriptor.specs.Answers.{validationOf}
+use Rattle.descriptor.proofs.Refusals.{refusal-none, hold-split}
 use Rattle.descriptor.proofs.Answered.{answer-numbers}
 use Rattle.entry.specs.declared.answers.Opened.{Opened}
 use Rattle.entry.specs.Answers.{openOf, openCase}
@@ -23,6 +24,10 @@ use Rattle.writer.specs.declared.appending.Appended.{Appended}
 use Rattle.writer.specs.Creation.{Creates}
 use Rattle.storing.specs.Handed.{Handed, Integers}
 use Rattle.writer.specs.Answers.{Appends}
+use Rattle.batch.specs.declared.batching.Batched.{Batched}
+use Rattle.batch.specs.Batch.{Batch, IntegersIn, entriesIn}
+use Rattle.batch.specs.Rules.{batchRules, batchRefusal}
+use Rattle.batch.specs.Answers.{AppendsBatch}
 use Rattle.listing.specs.Text.{joined}
 use Rattle.listing.specs.Listing.{listingOf, overLimit, outputOf, Lists, Prints}
 use Rattle.listing.specs.Lines.{linesIn, AllLines, listingLines, LeavesLines}
@@ -30,8 +35,8 @@ use Rattle.listing.proofs.Lines.{rows-count}
 use Rattle.listing.proofs.Listings.{fit-count, fit-filled, output-within, output-over}
 use Rattle.listing.proofs.Room.{room}
 use Rattle.promises.specs.Contents.{entriesOf, holds, readingOf, contents}
-use Rattle.promises.specs.Calls.{Call, AllFit, run, answers, handedContent, accepted}
-use Rattle.promises.specs.Tables.{validateTests, createTests, openTests, appendTests}
+use Rattle.promises.specs.Calls.{Call, batch, AllFit, batched, run, answers, handedContent, added, accepted}
+use Rattle.promises.specs.Tables.{validateTests, createTests, openTests, appendTests, inTurnTests, batchTests}
 use Rattle.promises.specs.Demand.{Start}
 use Rattle.promises.specs.FileA.{A}
 use Rattle.promises.specs.Examples.{entry, withSection, withoutSection, Differ}
@@ -40,8 +45,9 @@ use Rattle.promises.proofs.Series.{after-accepted}
 use Rattle.promises.proofs.AppendNumbers.{accepted-file, answer-there, number-there}
 use Rattle.promises.proofs.NewEntry.{reading-new}
 use Rattle.promises.proofs.Demand3.{demand-3}
+use Rattle.promises.proofs.Batches.{batch-all}
 use Rattle.promises.proofs.OrderPassed.{check-passed}
-use Rattle.promises.proofs.RefusalMeans.{validate-means, create-means, open-means, append-means}
+use Rattle.promises.proofs.RefusalMeans.{validate-means, create-means, open-means, append-means, batch-means}
 use Rattle.promises.proofs.WorkedExamples.{first-entries, entries-differ}
 use Rattle.promises.proofs.ListedLines.{over-line, listing-each, listing-joined, leaves-lines}
 
@@ -101,6 +107,25 @@ module _ (answer : List ℕ → Handed → Appended) (after : List ℕ → Hande
   pub second-stored : (file : List ℕ) (h k : Handed) → Integers k → answer (after file h) k .refusal ≡ 0
       → readingOf (after (after file h) k) (answer (after file h) k .number) ≡ holds (handedContent k)
   second-stored file h k g r = append-stores (after file h) k g r
+
+-- ---- a batch that refuses everything, or stores other entries than its own
+
+module _ (answer : List ℕ → Batch → Batched) (after : List ℕ → Batch → List ℕ) (meets : (file : List ℕ) (b : Batch) → AppendsBatch file b (answer file b) (after file b)) where
+  -- every batch whose tests all hold is accepted whole
+  pub batches-good-entries : (file : List ℕ) (b : Batch) → AllHold (batchTests file b) → answer file b ≡ record { refusal = 0; accepted = length (entriesIn b) }
+  unfolding batchRefusal
+  batches-good-entries file b all =
+      let given = refusal-none (batchRules b) (hold-split (batchRules b) (inTurnTests file (entriesIn b)) all .0) in
+      let z = batch-means file b .accepted all in
+      meets file b .0 ∙ (λ i. record { refusal = z i; accepted = batch-all file b given z i })
+
+  -- after a batch, also one that is refused, the file has its contents and then those of the batch's first entries, as many as the answer says
+  pub batch-stores : (file : List ℕ) (b : Batch) → IntegersIn b → Start file
+      → contents (after file b) ≡ contents file ++ map (λ h. holds (handedContent h)) (take (answer file b .accepted) (entriesIn b))
+  batch-stores file b g start =
+      ap contents (meets file b .1)
+      ∙ demand-3 (batch b ∷ []) (g, tt) file start .kept
+      ∙ ap (λ (a : Batched). contents file ++ added (batch b) (batched a)) (sym (meets file b .0))
 
 -- ---- a listing with a made-up number of entries
 

@@ -1,4 +1,4 @@
--- The theorems, from the inside out. Demand 3 is stated in Demand3; what a refusal means in RefusalMeans and CheckMeans, and what it leaves in RefusedAnswers.
+-- The theorems, from the inside out. Demand 3 is stated in Demand3; what a refusal means in RefusalMeans and CheckMeans, and what it leaves in RefusedAnswers; a batch beside single appends in Batches.
 pub mod Areas
 pub mod Spread
 pub mod EntriesStay
@@ -13,18 +13,21 @@ pub mod SectionFirst
 pub mod EntryAlike
 pub mod NewEntry
 pub mod AppendAdds
-pub mod AppendNumbers
+pub mod RefusalMeans
 pub mod RefusedAnswers
+pub mod AppendNumbers
 pub mod Bytes
 pub mod CreateBytes
 pub mod AppendBytes
+pub mod Adding
+pub mod InTurn
 pub mod Series
+pub mod Batches
 pub mod Orders
 pub mod OrderAgain
 pub mod Demand3
 pub mod Leftovers
 pub mod WrittenOnce
-pub mod RefusalMeans
 pub mod CheckMeans
 pub mod WorkedExamples
 pub mod Determined

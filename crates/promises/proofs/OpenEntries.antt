@@ -21,7 +21,7 @@ use Rattle.entry.specs.Answers.{openedAs, openOf, dataPlaceOf}
 use Rattle.entry.proofs.Entering.{Opens, entry-opens, entered-numbers}
 use Rattle.entry.proofs.Opened.{open-numbers}
 use Rattle.handing.specs.Parts.{pieceFrom, bytesOf}
-use Rattle.written.proofs.ReadBack.{Validates}
+use Rattle.descriptor.specs.Answers.{Validates}
 use Rattle.promises.specs.Contents.{startIn, pieceAt, Section, sectionRead}
 use Rattle.promises.proofs.Readings.{numbers-shown}
 

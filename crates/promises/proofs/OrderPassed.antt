@@ -22,7 +22,7 @@ use Rattle.order.specs.declared.answers.Checked.{Checked}
 use Rattle.descriptor.specs.Areas.{areaStartOf, areaEndOf}
 use Rattle.order.specs.Order.{startsInOrder, endsInOrder, orderRules, orderRefusal, allPass, checkedIn, checkOf}
 use Rattle.outcome.proofs.Either.{either}
-use Rattle.written.proofs.ReadBack.{Validates}
+use Rattle.descriptor.specs.Answers.{Validates}
 use Rattle.promises.proofs.Scan.{scan-all, scan-pass, check-refused, check-scans, by-file}
 use Rattle.promises.proofs.Spread.{entryAt}
 

@@ -1,4 +1,4 @@
--- The order shows in a file's bytes alone: two creations with the same settings but for the order, and the same appends to each, answer the same and
+-- The order shows in a file's bytes alone: two creations with the same settings but for the order, and the same calls on each, answer the same and
 -- leave the same contents. Assumes nothing.
 use Prim.Native.Nat.{ℕ, _+_}
 use mathlib.Core.Path.{_≡_, refl, sym, ap, ap₂, _∙_}
@@ -24,11 +24,14 @@ use Rattle.writer.specs.declared.appending.Appended.{Appended}
 use Rattle.writer.specs.Rules.{appendRefusal}
 use Rattle.writer.specs.Answers.{appendedFrom, appendIn, appendOf, fileAfter}
 use Rattle.writer.specs.Creation.{creationRefusal, createdFile}
+use Rattle.batch.specs.Batch.{Batch, entriesIn}
+use Rattle.batch.specs.Rules.{batchRefusal}
+use Rattle.batch.specs.Answers.{answerInTurn, fileInTurn, batchOf, fileAfterBatch}
 use Rattle.written.proofs.ReadBack.{shows, admits, file-written, append-shows}
 use Rattle.written.proofs.AppendLeaves.{left}
 use Rattle.written.proofs.CreatedBack.{noAddresses, length-created, created-validated}
 use Rattle.promises.specs.Contents.{contents}
-use Rattle.promises.specs.Calls.{Call, append, AllFit, appended, run, answers, contentsAfterAll}
+use Rattle.promises.specs.Calls.{Call, append, batch, AllFit, appended, batched, run, answers, contentsAfterAll}
 use Rattle.promises.specs.Orders.{settingsWith, numbersWith}
 use Rattle.promises.proofs.AppendNumbers.{by-answer}
 use Rattle.promises.proofs.RefusedAnswers.{append-kept}
@@ -112,11 +115,25 @@ module _ {o : ByteOrder} {f g : List ℕ} (t : Twins o f g) (h : Handed) where
       let other = append-kept g h (λ e. eqb-false (appendOf f h .refusal) 0 q (ap (λ (x : Appended). x .refusal) (sym answers-same) ∙ e)) in
       rw (same, other) t)
 
--- ---- a series of them
+-- ---- a batch to each
+
+-- appends in turn answer the same, and leave such files again
+turns-same : (hs : List Handed) (n : ℕ) {o : ByteOrder} {f g : List ℕ} → Twins o f g → (answerInTurn n g hs ≡ answerInTurn n f hs) × Twins o (fileInTurn f hs) (fileInTurn g hs)
+turns-same [] n t = (refl, t)
+turns-same (h ∷ hs) n {f} t =
+    either (eqb (appendOf f h .refusal) 0) (λ q. rw (answers-same t h, q) (turns-same hs (n + 1) (twins-after t h))) (λ q. rw (answers-same t h, q) (refl, t))
+
+-- so does a batch
+batch-same : (b : Batch) {o : ByteOrder} {f g : List ℕ} → Twins o f g → (batchOf g b ≡ batchOf f b) × Twins o (fileAfterBatch f b) (fileAfterBatch g b)
+unfolding batchOf fileAfterBatch
+batch-same b t = either (eqb (batchRefusal b) 0) (λ q. rw q (turns-same (entriesIn b) 0 t)) (λ q. rw q (refl, t))
+
+-- ---- a series of calls
 
 series-same : (calls : List Call) {o : ByteOrder} {f g : List ℕ} → Twins o f g → answers calls g ≡ answers calls f
 series-same [] t = refl
 series-same (append h ∷ cs) t = λ i. appended (answers-same t h i) ∷ series-same cs (twins-after t h) i
+series-same (batch b ∷ cs) t = let s = batch-same b t in λ i. batched (s .0 i) ∷ series-same cs (s .1) i
 
 -- two creations with the same settings, each in its own order and in a buffer of its own, and the same calls on each: the answers and the contents are the same
 module _ (s : Settings) (o p : ℤ) (f g : List ℕ) (size : length g ≡ length f)

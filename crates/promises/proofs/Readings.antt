@@ -1,6 +1,6 @@
 -- Laws of what a reader finds: entries 1 to n in order, sections that stand alike in two files, and sections handed in one after another, which come back cut.
 -- Assumes nothing.
-use Prim.Native.Nat.{ℕ, zero, suc, _+_, _*_, _-_, _≤_}
+use Prim.Native.Nat.{ℕ, zero, suc, _+_, _*_, _-_, _≤_, _<_}
 use mathlib.Core.Path.{_≡_, refl, sym, ap, ap₂, _∙_}
 use mathlib.Core.Bool.{cond}
 use mathlib.Core.List.{List, [], _∷_, _++_}
@@ -14,13 +14,12 @@ use Rattle.geometry.specs.declared.units.RecordNumber.{RecordNumber}
 use Rattle.geometry.specs.declared.units.EntryNumber.{EntryNumber}
 use Rattle.descriptor.specs.declared.numbers.DescriptorNumbers.{DescriptorNumbers}
 use Rattle.descriptor.specs.declared.validating.Validation.{Validation}
-use Rattle.descriptor.specs.Answers.{validatedCase}
+use Rattle.descriptor.specs.Answers.{validatedCase, Validates}
 use Rattle.entry.specs.declared.answers.Opened.{Opened}
 use Rattle.entry.specs.Answers.{openOf, openCase}
 use Rattle.handing.specs.Parts.{pieceFrom, bytesOf, indexWordsOf, dataWordsOf}
 use Rattle.storing.specs.Handed.{wordsOf, sumOf}
-use Rattle.written.proofs.ReadBack.{Validates}
-use Rattle.promises.specs.Contents.{numbersIn, entriesOf, openedIn, startIn, inOrder, Section, pieceAt, sectionRead, contentRead, holds, refused, readingOf, contents}
+use Rattle.promises.specs.Contents.{numbersIn, entriesOf, openedIn, startIn, inOrder, Section, pieceAt, sectionRead, contentRead, Reading, holds, refused, readingOf, contents}
 use Rattle.promises.specs.Calls.{sectionsCut}
 
 -- the numbers of a file that validates are those that it validates with
@@ -45,10 +44,21 @@ pub inOrder-first : {A : Type 0} (f : ℕ → A) (n : ℕ) → inOrder f (suc n)
 inOrder-first f zero = refl
 inOrder-first {A} f (suc n) = ap (λ (l : List A). l ++ (f (suc (suc n)) ∷ [])) (inOrder-first f n)
 
+-- and each of them
+inOrder-at : {A : Type 0} (f : ℕ → A) (n k : ℕ) (d : A) → k < n → getD (inOrder f n) k d ≡ f (suc k)
+inOrder-at f zero k d l = absurd (omega arith)
+inOrder-at {A} f (suc n) zero d l = ap (λ (l : List A). getD l 0 d) (inOrder-first f n)
+inOrder-at {A} f (suc n) (suc k) d l = ap (λ (l : List A). getD l (suc k) d) (inOrder-first f n) ∙ inOrder-at (λ i. f (suc i)) n k d (omega arith)
+
 -- a file has as many contents as entries
 pub length-contents : (file : List ℕ) → length (contents file) ≡ entriesOf file
 unfolding contents
 length-contents file = inOrder-length (λ k. readingOf file (record { 0 = k })) (entriesOf file)
+
+-- behind k of them stands what is found under number k + 1
+pub contents-at : (file : List ℕ) (k : ℕ) (d : Reading) → k < entriesOf file → getD (contents file) k d ≡ readingOf file (record { 0 = suc k })
+unfolding contents
+contents-at file k d l = inOrder-at (λ k. readingOf file (record { 0 = k })) (entriesOf file) k d l
 
 -- ---- two files that answer alike
 

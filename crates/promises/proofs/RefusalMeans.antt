@@ -1,11 +1,11 @@
 -- What a refusal means: each call answers by the whole table of its tests. So k is given exactly when a test of number k fails
 -- and every earlier one passes. The order check is in CheckMeans. Assumes nothing.
-use Prim.Native.Nat.{ℕ}
+use Prim.Native.Nat.{ℕ, _+_}
 use mathlib.Core.Path.{_≡_, refl, sym, ap, _∙_}
 use mathlib.Core.Bool.{Bool, true, false, cond}
 use mathlib.Core.List.{List, [], _∷_, _++_}
 use native.Mathlib.Omega.{arith}
-use borrow.Author.Tests.{eqb-true}
+use borrow.Author.Tests.{eqb-true, eqb-false}
 use lib.Dec.{leb, ltb, eqb}
 use lib.IntN.{ℤ}
 use lib.ListN.{length}
@@ -17,7 +17,7 @@ use Rattle.descriptor.specs.declared.numbers.Settings.{Settings}
 use Rattle.descriptor.specs.declared.validating.Validated.the-variants.{Numbers}
 use Rattle.descriptor.specs.declared.validating.Validation.{Validation}
 use Rattle.descriptor.specs.FirstRecord.{numbersOf, addressesOf}
-use Rattle.descriptor.specs.Refusal.{Rule, refusalIn, Numbered}
+use Rattle.descriptor.specs.Refusal.{Rule, refusalIn, Given, Numbered}
 use Rattle.descriptor.specs.Rules.{fileRefusal}
 use Rattle.descriptor.specs.Answers.{noValidation, validationOf, extensionIn, extensionOf}
 use Rattle.descriptor.proofs.Refusals.{refusal-is, refusal-given, refusal-none, all-hold, refusal-append}
@@ -33,10 +33,13 @@ use Rattle.handing.specs.Parts.{noPart, pieceFrom, indexPart, sectionPart, data
 use Rattle.writer.specs.declared.inner.AppendedFrom.{AppendedFrom}
 use Rattle.storing.specs.Handed.{Handed}
 use Rattle.writer.specs.Rules.{appendRules, appendRefusal}
-use Rattle.writer.specs.Answers.{acceptedFrom, refusedFrom, appendedFrom, appendIn, appendOf}
+use Rattle.writer.specs.Answers.{acceptedFrom, refusedFrom, appendedFrom, appendIn, appendOf, fileAfter}
 use Rattle.writer.specs.Creation.{creationRefusal}
+use Rattle.batch.specs.Batch.{Batch, entriesIn}
+use Rattle.batch.specs.Rules.{batchRules, batchRefusal}
+use Rattle.batch.specs.Answers.{answerInTurn, batchOf}
 use Rattle.outcome.proofs.Either.{either}
-use Rattle.promises.specs.Tables.{extensionRows, entryRows, sectionRows, Exactly, validateTests, createTests, extensionTests, openTests, sectionTests, appendTests}
+use Rattle.promises.specs.Tables.{extensionRows, entryRows, sectionRows, Exactly, validateTests, createTests, extensionTests, openTests, sectionTests, appendTests, inTurnTests, batchTests}
 
 -- ---- any table
 
@@ -61,6 +64,24 @@ joined n rs ss m f g =
     let both = refusal-append rs ss m in
     let by : (b : Bool) → eqb (refusalIn rs) 0 ≡ b → refusalIn (rs ++ ss) ≡ cond b (refusalIn ss) (refusalIn rs) = λ b q. rw q at both in
     either (eqb (refusalIn rs) 0) (λ q. f (eqb-true (refusalIn rs) 0 q) ∙ sym (by true q)) (λ q. g q ∙ sym (by false q))
+
+-- all the numbers of a table's rows have a property
+abbrev pub EachNumber : (ℕ → Type 0) → List Rule → Type 0
+EachNumber P [] = Unit
+EachNumber P (r ∷ rs) = P (r .number) × EachNumber P rs
+
+-- so has its refusal, where it is not 0
+pub refusal-among : (P : ℕ → Type 0) (rules : List Rule) → EachNumber P rules → (refusalIn rules ≡ 0 → ⊥) → P (refusalIn rules)
+refusal-among P [] m f = absurd (f refl)
+refusal-among P (r ∷ rs) m f = either (r .holds) (λ q. rw q (refusal-among P rs (m .1) (λ z. f (rw q z)))) (λ q. rw q (m .0))
+
+-- a number that is given exactly by a table is its refusal
+exact-number : (n : ℕ) (rules : List Rule) → Numbered rules → Exactly n rules → n ≡ refusalIn rules
+exact-number n rules m e =
+    let k = refusalIn rules in
+    either (eqb k 0)
+    (λ q. let z = eqb-true k 0 q in e .accepted (all-hold rules m z) ∙ sym z)
+    (λ q. e .is k (refusal-given k rules refl (omega (arith, eqb-false k 0 q))))
 
 -- an answer with the number 0 where n is 0, and with n elsewhere, has the number n
 chosen : {A : Type 0} (number : A → ℕ) (n : ℕ) (x y : A) → number x ≡ 0 → number y ≡ n → number (cond (eqb n 0) x y) ≡ n
@@ -167,3 +188,51 @@ module _ (file : List ℕ) where
         there z =
             rw (entry-number ∙ z)
             (either (ltb (sectionNamed file (entry .start) identifier 0 (entry .nsec)) (entry .nsec)) (λ q. rw q) (λ q. rw q))
+
+-- ---- batches
+
+-- tests in turn have no row numbered 0
+turns-numbered : (hs : List Handed) (file : List ℕ) → Numbered (inTurnTests file hs)
+turns-numbered [] file = tt
+turns-numbered (h ∷ hs) file = numbered-joined (appendTests file h) (inTurnTests (fileAfter file h) hs) (omega arith) (turns-numbered hs (fileAfter file h))
+
+-- an append's refusal is that of its tests
+append-number : (file : List ℕ) (h : Handed) → appendOf file h .refusal ≡ refusalIn (appendTests file h)
+append-number file h = exact-number (appendOf file h .refusal) (appendTests file h) (omega arith) (append-means file h)
+
+-- appends in turn answer by their tests in turn
+turns-number : (hs : List Handed) (n : ℕ) (file : List ℕ) → answerInTurn n file hs .refusal ≡ refusalIn (inTurnTests file hs)
+turns-number [] n file = refl
+turns-number (h ∷ hs) n file =
+    let e = append-number file h in
+    joined (answerInTurn n file (h ∷ hs) .refusal) (appendTests file h) (inTurnTests (fileAfter file h) hs) (omega arith)
+    (λ z. rw (e ∙ z) (turns-number hs (n + 1) (fileAfter file h)))
+    (λ q. rw (ap (λ (k : ℕ). eqb k 0) e ∙ q) e)
+
+-- they never answer 26, which no row of an append has
+turns-no-26 : (hs : List Handed) (n : ℕ) (file : List ℕ) → answerInTurn n file hs .refusal ≡ 26 → ⊥
+turns-no-26 [] n file = omega arith
+turns-no-26 (h ∷ hs) n file =
+    let e = append-number file h in
+    either (eqb (appendOf file h .refusal) 0)
+    (λ q. rw q (turns-no-26 hs (n + 1) (fileAfter file h)))
+    (λ q. rw (q, e) (refusal-among (λ k. k ≡ 26 → ⊥) (appendTests file h) (omega arith) (λ z. eqb-false (appendOf file h .refusal) 0 q (e ∙ z))))
+
+module _ (file : List ℕ) (b : Batch) where
+  -- a batch
+  pub batch-means : Exactly (batchOf file b .refusal) (batchTests file b)
+  unfolding batchOf batchRefusal
+  batch-means =
+      let rest = inTurnTests file (entriesIn b) in
+      exactly (batchOf file b .refusal) (batchTests file b) (numbered-joined (batchRules b) rest (omega arith) (turns-numbered (entriesIn b) file))
+      (joined (batchOf file b .refusal) (batchRules b) rest (omega arith) (λ z. rw z (turns-number (entriesIn b) 0 file)) (λ q. rw q))
+
+  -- 26 is given exactly when a test of the batch as a whole fails, and then nothing is accepted
+  pub batch-26 : (batchOf file b .refusal ≡ 26 → Given 26 (batchRules b)) × (Given 26 (batchRules b) → batchOf file b ≡ record { refusal = 26; accepted = 0 })
+  unfolding batchOf batchRefusal
+  batch-26 = (
+    either (eqb (batchRefusal b) 0)
+        (λ q. rw q (λ e. absurd (turns-no-26 (entriesIn b) 0 file e)))
+        (λ q. rw q (λ e. refusal-given 26 (batchRules b) e (omega arith))),
+    λ g. rw (refusal-is 26 (batchRules b) g),
+  )

@@ -1,9 +1,11 @@
--- A refused call of any kind gives the number and zeros elsewhere, an empty part, and changes no byte. Assumes nothing.
--- Only creation and append change a file; the other calls have it lent for reading.
+-- A refused call of any kind gives the number and zeros elsewhere, an empty part, and changes no byte; so does a batch where 26 is given. Where one of its appends is
+-- refused, those before it are done (Batches). Assumes nothing.
+-- Only creation, append and a batch of appends change a file; the other calls have it lent for reading.
 use Prim.Native.Nat.{ℕ}
 use mathlib.Core.Path.{_≡_, refl}
 use mathlib.Core.Bool.{_&&_}
 use mathlib.Core.List.{List, []}
+use native.Mathlib.Omega.{arith}
 use borrow.Author.Tests.{ne-eqb}
 use lib.Dec.{leb, ltb, eqb}
 use lib.IntN.{ℤ}
@@ -29,7 +31,11 @@ use Rattle.storing.specs.Handed.{Handed}
 use Rattle.writer.specs.Rules.{appendRefusal}
 use Rattle.writer.specs.Answers.{appendedFrom, fileFrom, appendIn, fileIn, appendOf, fileAfter}
 use Rattle.writer.specs.Creation.{creationRefusal, createdFile}
+use Rattle.batch.specs.Batch.{Batch}
+use Rattle.batch.specs.Rules.{batchRules, batchRefusal}
+use Rattle.batch.specs.Answers.{batchOf, fileAfterBatch}
 use Rattle.outcome.proofs.Either.{either}
+use Rattle.promises.proofs.RefusalMeans.{refusal-among}
 
 -- ---- validating, and an extension
 
@@ -101,7 +107,7 @@ pub part-empty : (file : List ℕ) (n : ℕ) → bytesOf file (noPart n) ≡ []
 unfolding part
 part-empty file n = refl
 
--- ---- creation and append
+-- ---- creation, append and a batch
 
 -- a refused creation changes no byte
 pub create-kept : (file : List ℕ) (settings : Settings) → (creationRefusal (length file) settings ≡ 0 → ⊥) → createdFile file settings ≡ file
@@ -124,3 +130,13 @@ module _ (file : List ℕ) (h : Handed) where
   -- and changes no byte
   pub append-kept : (appendOf file h .refusal ≡ 0 → ⊥) → fileAfter file h ≡ file
   append-kept f = append-by (validationOf file .numbers) (validationOf file .addresses) f .1
+
+-- a batch that is refused as a whole answers 26, and accepts none
+pub batch-refused : (file : List ℕ) (b : Batch) → (batchRefusal b ≡ 0 → ⊥) → batchOf file b ≡ record { refusal = 26; accepted = 0 }
+unfolding batchOf batchRefusal
+batch-refused file b f = rw (refusal-among (λ n. n ≡ 26) (batchRules b) (omega arith) f)
+
+-- and changes no byte
+pub batch-kept : (file : List ℕ) (b : Batch) → (batchRefusal b ≡ 0 → ⊥) → fileAfterBatch file b ≡ file
+unfolding fileAfterBatch
+batch-kept file b f = rw (ne-eqb (batchRefusal b) 0 f)

@@ -17,7 +17,8 @@ use Rattle.entry.specs.Opening.{slotPositionOf, placeStored, entryRefusal, ente
 use Rattle.entry.proofs.Entering.{entry-opens, entered-numbers}
 use Rattle.descriptor.specs.Areas.{areaStartOf, areaEndOf}
 use Rattle.written.proofs.Cases.{by-order}
-use Rattle.written.proofs.ReadBack.{Validates, shows}
+use Rattle.descriptor.specs.Answers.{Validates}
+use Rattle.written.proofs.ReadBack.{shows}
 use Rattle.promises.specs.Regions.{firstRecord, area, entry, fromOf, toOf, NoneShared, SoundIn, Sound}
 use Rattle.promises.proofs.Areas.{area-behind, areas-order}
 

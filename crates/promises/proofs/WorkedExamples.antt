@@ -23,6 +23,8 @@ use Rattle.placing.specs.Placing.{full, newArea, afterNewArea, entryStart, nexA
 use Rattle.writer.specs.Rules.{appendRefusal}
 use Rattle.storing.specs.Writing.{headFrom, areaWritten, entryWritten, indexWritten, appended}
 use Rattle.writer.specs.Answers.{appendedFrom, fileFrom, appendIn, fileIn}
+use Rattle.batch.specs.Rules.{batchRefusal}
+use Rattle.batch.specs.Answers.{batchOf, fileAfterBatch}
 use Rattle.promises.specs.FileA.{A}
 use Rattle.promises.specs.Examples.{AllMatch, examples, entry, withSection, withoutSection, Differ}
 use Rattle.promises.specs.RequestExamples.{requestExamples}
@@ -41,7 +43,7 @@ unfolding part splice zeros allZero littleNumber littleNumeral arranged number n
     placeStored slotPositionOf entryRefusal enteredOf enteredIn openedAs openOf sectionPart dataPart partIn
     firstWritten creationRefusal createdFile absent distinct positive appendRefusal
     full newArea afterNewArea entryStart nexAfter numbersAfter addressesAfter
-    headFrom areaWritten entryWritten indexWritten appended appendedFrom fileFrom appendIn fileIn
+    headFrom areaWritten entryWritten indexWritten appended appendedFrom fileFrom appendIn fileIn batchRefusal batchOf fileAfterBatch
 seen = record {}
 
 -- every row of the table
@@ -78,6 +80,9 @@ worked-examples =
 pub request-examples : AllMatch requestExamples
 unfolding requestExamples seen
 request-examples =
+    -- Q-1
+    refl & refl & refl & refl & refl & refl & refl & refl & refl & refl & refl &
+    refl & refl & refl & refl & refl & refl & refl & refl & refl & refl & refl &
     -- Q-2
     refl & refl & refl & refl & refl & refl & refl & refl &
     -- Q-4

@@ -1,15 +1,15 @@
 -- Demand 3: the files that it starts from, and what it promises after a series of calls.
-use Prim.Native.Nat.{ℕ, _≤_}
+use Prim.Native.Nat.{ℕ, _+_, _≤_, _<_}
 use mathlib.Core.Path.{_≡_}
 use mathlib.Core.Logic.{_⊎_}
 use mathlib.Core.List.{List}
-use lib.ListN.{length}
+use lib.ListN.{length, getD}
 use Rattle.descriptor.specs.declared.numbers.Settings.{Settings}
 use Rattle.descriptor.specs.FirstRecord.{numbersOf, addressesOf}
 use Rattle.order.specs.Order.{allPass, checkOf}
 use Rattle.writer.specs.Creation.{creationRefusal, createdFile}
-use Rattle.promises.specs.Contents.{entriesOf, openedIn, contents, Unchanged}
-use Rattle.promises.specs.Calls.{Call, Answer, contentsAfterAll, accepted, numbersGiven, following}
+use Rattle.promises.specs.Contents.{entriesOf, openedIn, refused, readingOf, contents, Unchanged}
+use Rattle.promises.specs.Calls.{Call, Answer, contentsAfterAll, accepted, AllNumbered}
 use Rattle.promises.specs.Regions.{NoneShared}
 
 -- a file that an accepted creation made
@@ -29,8 +29,10 @@ pub record Promised (calls : List Call) (given : List Answer) (before after : Li
   pub kept : contents after ≡ contentsAfterAll calls given (contents before)
   -- and every starting entry is as it was, all its words and its slot
   pub stays : (e : ℕ) → 1 ≤ e → e ≤ entriesOf before → Unchanged before after (record { 0 = e })
-  -- the k-th accepted call answered n + k
-  pub numbered : numbersGiven given ≡ following (entriesOf before) (length (accepted calls given))
+  -- the k-th accepted entry has number n + k
+  pub found : (k : ℕ) → k < length (accepted calls given) → readingOf after (record { 0 = entriesOf before + k + 1 }) ≡ getD (accepted calls given) k (refused 0)
+  -- which is what its append answered
+  pub numbered : AllNumbered (entriesOf before) calls given
   -- every entry opens
   pub opened : (e : ℕ) → 1 ≤ e → e ≤ entriesOf after → openedIn after (record { 0 = e }) .refusal ≡ 0
   -- no two of the first record, the index areas and the entries share a word

@@ -1,8 +1,8 @@
 -- Cases of the requests of 02, worked by hand, as one table. A row has the number of its request, what the definitions give, and what 02 says or the rules give by hand.
-use Prim.Native.Nat.{ℕ, _+_, _*_, _-_, _/_}
+use Prim.Native.Nat.{ℕ, _+_, _*_, _-_, _/_, _^_}
 use mathlib.Core.List.{List, [], _∷_, _++_, map}
 use lib.IntN.{ℤ, pos, negℤ}
-use lib.ListN.{length}
+use lib.ListN.{length, replicate}
 use Rattle.image.specs.Image.{splice}
 use Rattle.image.specs.Writes.{Write, put}
 use Rattle.geometry.specs.declared.units.RecordNumber.{RecordNumber}
@@ -16,6 +16,9 @@ use Rattle.handing.specs.Parts.{sectionWordsOf, dataWordsOf, bytesOf, noPart}
 use Rattle.storing.specs.Handed.{handedIn}
 use Rattle.writer.specs.Creation.{creationRefusal, createdFile}
 use Rattle.writer.specs.Answers.{appendOf, fileAfter}
+use Rattle.batch.specs.declared.batching.Batched.{Batched}
+use Rattle.batch.specs.Batch.{Batch, laidIn, batchIn, entriesIn}
+use Rattle.batch.specs.Answers.{batchOf, fileAfterBatch}
 use Rattle.promises.specs.Contents.{numbersIn, openedIn}
 use Rattle.promises.specs.Calls.{following}
 use Rattle.promises.specs.WrittenOnce.{writesOf, timesWritten}
@@ -24,7 +27,33 @@ use Rattle.promises.specs.ByHand.{wordsAt, little, big, firstRecord, ent
 use Rattle.promises.specs.Examples.{Row, entry, aex, at, identifierFirst, opensAt, filled, numbersRefusal, imageWith}
 use Rattle.promises.specs.Examples.Row.{Q}
 
--- Q-2: with lex1 1 and gex 15 the areas of 1, 1, 2, 3 and 5 entries take a record of 46 words each
+-- ---- Q-1
+
+-- a row of an entry with so many index bytes, and nothing else
+abbrev pub indexRow : ℕ → List ℕ
+indexRow n = n ∷ 0 ∷ 0 ∷ 0 ∷ 0 ∷ []
+
+-- a row of an entry with so many data bytes, and nothing else
+abbrev pub dataRow : ℕ → List ℕ
+dataRow n = 0 ∷ 0 ∷ 0 ∷ 0 ∷ n ∷ []
+
+-- a batch with a version 1 for each row, and so many index bytes, 1, 2, and on
+abbrev pub batchWith : List (List ℕ) → ℕ → Batch
+batchWith rows bytes = batchIn (map (λ counts. pos 1) rows) rows (laidIn (following 0 bytes) [] [] [] [])
+
+-- the three appends of file A in one batch
+abbrev pub batchA : Batch
+batchA =
+    batchIn (pos 1 ∷ pos 1 ∷ pos 1 ∷ []) ((4 ∷ 1 ∷ 1 ∷ 12 ∷ 20 ∷ []) ∷ indexRow 4 ∷ indexRow 4 ∷ [])
+    (laidIn (following 200 4 ++ following 210 4 ++ following 220 4) (pos 7 ∷ []) (pos 3 ∷ []) (following 0 12) (following 100 20))
+
+-- an answer: so many accepted, and the refusal behind them
+abbrev pub ends : ℕ → ℕ → Batched
+ends accepted refusal = record { refusal = refusal; accepted = accepted }
+
+-- ---- Q-2
+
+-- with lex1 1 and gex 15 the areas of 1, 1, 2, 3 and 5 entries take a record of 46 words each
 abbrev pub fiveAreas : List RecordNumber
 fiveAreas = aex 2 ∷ aex 3 ∷ aex 4 ∷ aex 5 ∷ aex 6 ∷ []
 
@@ -100,6 +129,36 @@ oneRecord reclen = imageWith (offsetOf reclen) (settings reclen 4 2 20)
 -- every row, in the order of the requests
 unfoldable pub requestExamples : List Row
 requestExamples =
+    -- no entries and nothing laid: 0 and 0 over 10 bytes, which stay; with a byte left, or a row, or a version: 26
+    Q 1 (batchOf (following 0 10) (batchWith [] 0)) (ends 0 0) ∷
+    Q 1 (fileAfterBatch (following 0 10) (batchWith [] 0)) (following 0 10) ∷
+    Q 1 (batchOf (following 0 10) (batchWith [] 1)) (ends 0 26) ∷
+    Q 1 (batchOf (following 0 10) (batchIn [] (indexRow 0 ∷ []) (laidIn [] [] [] [] []))) (ends 0 26) ∷
+    Q 1 (batchOf (following 0 10) (batchIn (pos 1 ∷ []) [] (laidIn [] [] [] [] []))) (ends 0 26) ∷
+    -- an entry over 10 bytes: 1, by the first entry; 65 of them: 26, and with 64 it is 1
+    Q 1 (batchOf (following 0 10) (batchWith (indexRow 0 ∷ []) 0)) (ends 0 1) ∷
+    Q 1 (batchOf (following 0 10) (batchWith (replicate 65 (indexRow 0)) 0)) (ends 0 26) ∷
+    Q 1 (batchOf (following 0 10) (batchWith (replicate 64 (indexRow 0)) 0)) (ends 0 1) ∷
+    -- lind 4 asks for 4 index bytes. Counts 4 and 8: the first is accepted, the second gives 21, and the file is that after the first
+    Q 1 (batchOf (created 6) (batchWith (indexRow 4 ∷ indexRow 8 ∷ []) 12)) (ends 1 21) ∷
+    Q 1 (fileAfterBatch (created 6) (batchWith (indexRow 4 ∷ indexRow 8 ∷ []) 12)) (fileAfter (created 6) (handedIn (pos 1) (following 0 4) [] [] [] [])) ∷
+    -- counts 8 and 0 of 8 bytes: the first gives 21, and nothing is written
+    Q 1 (batchOf (created 6) (batchWith (indexRow 8 ∷ indexRow 0 ∷ []) 8)) (ends 0 21) ∷
+    Q 1 (fileAfterBatch (created 6) (batchWith (indexRow 8 ∷ indexRow 0 ∷ []) 8)) (created 6) ∷
+    -- counts that do not use up the index bytes, by one more and by one less: 26, and nothing is written
+    Q 1 (batchOf (created 6) (batchWith (indexRow 4 ∷ indexRow 5 ∷ []) 8)) (ends 0 26) ∷
+    Q 1 (batchOf (created 6) (batchWith (indexRow 4 ∷ indexRow 4 ∷ []) 9)) (ends 0 26) ∷
+    Q 1 (fileAfterBatch (created 6) (batchWith (indexRow 4 ∷ indexRow 4 ∷ []) 9)) (created 6) ∷
+    -- counts whose sum is 2^64, and no bytes: 26
+    Q 1 (batchOf (created 6) (batchWith (dataRow (2 ^ 63) ∷ dataRow (2 ^ 63) ∷ []) 0)) (ends 0 26) ∷
+    Q 1 (batchOf (created 6) (batchWith (dataRow (2 ^ 64 - 1) ∷ dataRow 1 ∷ []) 0)) (ends 0 26) ∷
+    -- the three appends of A in one batch: its entries are what they hand in, all are accepted, and the first record is A's
+    Q 1 (entriesIn batchA) (append1 ∷ append2 ∷ append3 ∷ []) ∷
+    Q 1 (batchOf (created 6) batchA) (ends 3 0) ∷
+    Q 1 (wordsAt (fileAfterBatch (created 6) batchA) 1 1 20) (firstRecord little 4 6 12 2 2 5) ∷
+    -- with 5 records the third gives 24, and the first record is that after the second
+    Q 1 (batchOf (created 5) batchA) (ends 2 24) ∷
+    Q 1 (wordsAt (fileAfterBatch (created 5) batchA) 1 1 20) (firstRecord little 3 4 16 1 2 0) ∷
     -- lex1 1, gex 15: 1, 1, 2, 3, 5
     Q 2 (map (capacityOf (growthOf 1 15)) (1 ∷ 2 ∷ 3 ∷ 4 ∷ 5 ∷ [])) (1 ∷ 1 ∷ 2 ∷ 3 ∷ 5 ∷ []) ∷
     -- so five extensions fit 12 entries, and not 13

@@ -17,10 +17,13 @@ use Rattle.order.specs.declared.answers.Checked.{Checked}
 use Rattle.order.specs.Order.{orderRules, allPass}
 use Rattle.storing.specs.Handed.{Handed}
 use Rattle.writer.specs.Rules.{appendRules}
+use Rattle.writer.specs.Answers.{fileAfter}
+use Rattle.batch.specs.Batch.{Batch, entriesIn}
+use Rattle.batch.specs.Rules.{batchRules}
 
 -- ---- the tables
 
--- every call but creation tests 1 to 11 and 29 first; validating tests no more
+-- every call but creation and a batch tests 1 to 11 and 29 first; validating tests no more
 abbrev pub validateTests : List ℕ → List Rule
 validateTests file = fileRules file (numbersOf file) (addressesOf file (numbersOf file .nex))
 
@@ -63,6 +66,15 @@ sectionTests file e identifier = openTests file e ++ sectionRows file e identifi
 -- append adds 21 to 24
 abbrev pub appendTests : List ℕ → Handed → List Rule
 appendTests file h = validateTests file ++ appendRules (length file) (numbersOf file) h
+
+-- appends in turn test as each does, on the file that the one before it left
+abbrev pub inTurnTests : List ℕ → List Handed → List Rule
+inTurnTests file [] = []
+inTurnTests file (h ∷ hs) = appendTests file h ++ inTurnTests (fileAfter file h) hs
+
+-- a batch tests 26 before them
+abbrev pub batchTests : List ℕ → Batch → List Rule
+batchTests file b = batchRules b ++ inTurnTests file (entriesIn b)
 
 -- the order check opens entry e, and adds 25
 abbrev pub orderTests : List ℕ → EntryNumber → List Rule

@@ -33,7 +33,7 @@ use Rattle.fields.specs.FieldWrites.{settingWrites, countWrites, growthWrites, 
 use Rattle.writer.specs.Creation.{creationRefusal, createdFile}
 use Rattle.writer.proofs.Created.{created-fits}
 use Rattle.descriptor.proofs.Admitting.{apt, order-known, validated}
-use Rattle.written.proofs.ReadBack.{Validates}
+use Rattle.descriptor.specs.Answers.{Validates}
 
 -- the addresses of a new file: none
 abbrev pub noAddresses : List RecordNumber

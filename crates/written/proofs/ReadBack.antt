@@ -7,11 +7,10 @@ use borrow.Author.Tests.{eq-eqb}
 use lib.ListN.{length}
 use Rattle.geometry.specs.declared.units.RecordNumber.{RecordNumber}
 use Rattle.descriptor.specs.declared.numbers.DescriptorNumbers.{DescriptorNumbers}
-use Rattle.descriptor.specs.declared.validating.Validated.the-variants.{Numbers}
 use Rattle.descriptor.specs.declared.validating.Validation.{Validation}
 use Rattle.descriptor.specs.FirstRecord.{numbersOf, addressesOf}
 use Rattle.descriptor.specs.Rules.{fileRefusal}
-use Rattle.descriptor.specs.Answers.{validationOf}
+use Rattle.descriptor.specs.Answers.{validationOf, Validates}
 use Rattle.descriptor.specs.Bounds.{Admitted}
 use Rattle.descriptor.proofs.Answered.{file-order, file-passed, file-admitted, answer-numbers, told}
 use Rattle.storing.specs.Handed.{Handed}
@@ -23,10 +22,6 @@ use Rattle.writer.proofs.HandedIn.{accepted}
 use Rattle.descriptor.proofs.Admitting.{Apt, apt, validated}
 use Rattle.written.proofs.AppendLeaves.{new, then, areasThen, left}
 use Rattle.written.proofs.FirstRecordAfter.{numbers-read, addresses-read, clear-kept}
-
--- a file validates with these numbers and addresses
-abbrev pub Validates : List ℕ → DescriptorNumbers → List RecordNumber → Type 0
-Validates file d addresses = validationOf file ≡ record { refusal = 0; numbers = Numbers d; addresses = addresses }
 
 -- what such a file shows: it is admitted, and these are its own
 pub record Shown (file : List ℕ) (d : DescriptorNumbers) (addresses : List RecordNumber) : Type 0 where

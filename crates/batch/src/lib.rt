@@ -1,0 +1,12 @@
+// Appending a whole batch of entries in one call.
+//
+// The rules of the batch itself are tested before anything is written. Then the file is validated once,
+// and each append works from the numbers and addresses that the one before it gave. Its entries are
+// taken where they lie in the lent arrays: nothing is copied but into the file.
+mod batching;
+mod cursor;
+mod rules;
+mod turn;
+
+pub use batching::Batched;
+pub use batching::append_batch;
