@@ -1,4 +1,4 @@
-/* Writes the examples by the library: a.classic to e.classic in a folder. README.md says what each is.
+/* Writes the examples by the library: a.classic to f.classic in a folder. README.md says what each is.
    Usage: writer FOLDER */
 #include "classic.h"
 
@@ -46,21 +46,55 @@ static void create(size_t records, classic_settings settings) {
     if (refusal != 0) give_up("the creation is refused", refusal);
 }
 
-/* Appends entries. The index words of entry k count up from 100 k, its sections from 1,000 k and its data from
-   10,000 k; they are the same bytes in either order. */
+/* Lays what entry k is given, and its row of counts. Its index words count up from 100 k, its sections from 1,000 k and
+   its data from 10,000 k; they are the same bytes in either order. */
+static void lay(const addition *a, uint32_t k, uint8_t *index, uint8_t *sections, uint8_t *data, uint64_t counts[5]) {
+    size_t words = 0;
+    for (size_t i = 0; i < a->nsec; i++) words += (size_t)a->lengths[i];
+    count_up(index, lind - 3, 100 * k);
+    count_up(sections, words, 1000 * k);
+    count_up(data, a->ldata, 10000 * k);
+    counts[0] = 4 * (lind - 3);
+    counts[1] = counts[2] = a->nsec;
+    counts[3] = 4 * words;
+    counts[4] = 4 * a->ldata;
+}
+
+/* Appends entries, each by a call of its own. */
 static void append(const addition *additions, uint32_t count) {
     uint8_t index[64], sections[64], data[64];
+    uint64_t counts[5];
     for (uint32_t k = 1; k <= count; k++) {
         const addition *a = &additions[k - 1];
-        size_t words = 0;
-        for (size_t i = 0; i < a->nsec; i++) words += (size_t)a->lengths[i];
-        count_up(index, lind - 3, 100 * k);
-        count_up(sections, words, 1000 * k);
-        count_up(data, a->ldata, 10000 * k);
-        classic_appended appended = classic_append(file, bytes, a->version, index, 4 * (lind - 3), a->ids, a->nsec,
-                                                   a->lengths, a->nsec, sections, 4 * words, data, 4 * a->ldata);
+        lay(a, k, index, sections, data, counts);
+        classic_appended appended = classic_append(file, bytes, a->version, index, counts[0], a->ids, counts[1],
+                                                   a->lengths, counts[2], sections, counts[3], data, counts[4]);
         if (appended.refusal != 0) give_up("an append is refused", appended.refusal);
     }
+}
+
+/* Appends up to 16 entries by one call: each kind is laid end to end. */
+static void append_together(const addition *additions, uint32_t count) {
+    uint8_t index[1024], sections[1024], data[1024];
+    int32_t versions[16], ids[32];
+    int64_t lengths[32];
+    uint64_t counts[16][5];
+    size_t index_bytes = 0, sections_before = 0, section_bytes = 0, data_bytes = 0;
+    for (uint32_t k = 1; k <= count; k++) {
+        const addition *a = &additions[k - 1];
+        lay(a, k, index + index_bytes, sections + section_bytes, data + data_bytes, counts[k - 1]);
+        versions[k - 1] = a->version;
+        memcpy(ids + sections_before, a->ids, a->nsec * sizeof *ids);
+        memcpy(lengths + sections_before, a->lengths, a->nsec * sizeof *lengths);
+        index_bytes += counts[k - 1][0];
+        sections_before += counts[k - 1][1];
+        section_bytes += counts[k - 1][3];
+        data_bytes += counts[k - 1][4];
+    }
+    classic_batched batched =
+        classic_append_batch(file, bytes, versions, count, (const uint64_t(*)[5])counts, count, index, index_bytes, ids,
+                             sections_before, lengths, sections_before, sections, section_bytes, data, data_bytes);
+    if (batched.refusal != 0) give_up("a batch is refused", batched.refusal);
 }
 
 /* Writes the first bytes of the file to a name in a folder. */
@@ -104,7 +138,8 @@ static void write_files_a(const char *folder) {
     save(folder, "e.classic", bytes);
 }
 
-/* b.classic: three extensions of 2, 3 and 4 entries; the index of entry 9 crosses a record's end. */
+/* b.classic: three extensions of 2, 3 and 4 entries, all made in one batch; the index of entry 9 crosses a record's
+   end. */
 static void write_b(const char *folder) {
     static const addition additions[] = {
         {1, 1, {7}, {3}, 5},         {1, 0, {0}, {0}, 12},     {2, 2, {-3, 4}, {2, 6}, 4},
@@ -112,7 +147,7 @@ static void write_b(const char *folder) {
         {1, 2, {-2, -3}, {5, 1}, 1}, {0, 1, {100000}, {2}, 6}, {-1, 1, {7}, {3}, 5},
     };
     create(20, (classic_settings){CLASSIC_LITTLE, 20, 1, 2, 6, 1, 2, 15});
-    append(additions, 9);
+    append_together(additions, 9);
     save(folder, "b.classic", bytes);
 }
 

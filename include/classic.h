@@ -206,7 +206,8 @@ classic_appended classic_append(uint8_t *file, size_t bytes, int32_t version,
 /* Appends up to 64 entries, as that many calls of append in turn would, up to the first that is refused: the entries
    before it stay, and none behind it is tried. Each kind is laid end to end: the versions, and for each entry a row of
    counts, which are its index bytes, identifiers, lengths, section bytes and data bytes. A file that is refused is so
-   with the first entry; no entries, with empty arrays, answer 0 and 0 for any bytes. */
+   with the first entry; no entries, with empty arrays, answer 0 and 0 for any bytes. Before C23, counts that are not
+   const are passed by a cast, as (const uint64_t (*)[5])counts. */
 classic_batched classic_append_batch(uint8_t *file, size_t bytes,
                                      const int32_t *versions, size_t version_count,
                                      const uint64_t (*counts)[5], size_t count_rows,

@@ -47,8 +47,8 @@ pub fn after(mut file: Vec<u8>, addition: &Addition) -> Vec<u8> {
     file
 }
 
-/// File A in an order after its first so many appends.
-pub fn a_after(order: Order, count: usize) -> Vec<u8> {
+/// What the appends of file A are given.
+pub fn additions() -> [Addition; 3] {
     let first = Addition {
         version: 1,
         index: words(&[101]),
@@ -57,8 +57,12 @@ pub fn a_after(order: Order, count: usize) -> Vec<u8> {
         sections: words(&[11, 12, 13]),
         data: words(&[21, 22, 23, 24, 25]),
     };
-    let additions = [first, bare(&[102]), bare(&[103])];
-    additions[..count].iter().fold(created(480, 0xee, in_order(order, settings(20, 4, 2, 20))), after)
+    [first, bare(&[102]), bare(&[103])]
+}
+
+/// File A in an order after its first so many appends.
+pub fn a_after(order: Order, count: usize) -> Vec<u8> {
+    additions()[..count].iter().fold(created(480, 0xee, in_order(order, settings(20, 4, 2, 20))), after)
 }
 
 /// File A.

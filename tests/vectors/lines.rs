@@ -1,6 +1,6 @@
 //! The line of a case: the call, its name, and the answer of the independent implementation.
 
-use crate::reference::{self, Addition, Part, Refusal, Settings};
+use crate::reference::{self, Addition, Batch, Part, Refusal, Settings};
 
 /// A refusal in words.
 fn refused(refusal: Refusal) -> String {
@@ -139,6 +139,17 @@ pub fn append(name: &str, file: &mut [u8], bytes: usize, addition: &Addition) {
         Err(refusal) => format!("{} {}", refused(refusal), unchanged(&before, file)),
     };
     println!("append {name}: {told}");
+}
+
+/// Appends a batch to the first so many bytes of a file, which stays as the batch leaves it.
+pub fn batch(name: &str, file: &mut [u8], bytes: usize, batch: &Batch) {
+    let before = file.to_vec();
+    let (accepted, refusal) = match reference::append_batch(&mut file[..bytes], batch) {
+        Ok(accepted) => (accepted, String::new()),
+        Err((accepted, refusal)) => (accepted, format!(" {}", refused(refusal))),
+    };
+    let bytes = if accepted == 0 { format!(" {}", unchanged(&before, file)) } else { String::new() };
+    println!("batch {name}: accepted {accepted}{refusal}{bytes}");
 }
 
 /// Every call on the first so many bytes of a file, 0 for one that is accepted.

@@ -1,6 +1,7 @@
 //! The named cases of the program `vectors`, stated from documents 01 and 02 and answered by the independent implementation:
 //! one line a case, in the program's words.
 
+mod batches;
 mod cases;
 mod files;
 mod leftovers;
@@ -34,4 +35,5 @@ fn main() {
     cases::every_call(Order::Big);
     orders::other_code();
     leftovers::leftovers();
+    batches::batches();
 }

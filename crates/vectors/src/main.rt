@@ -1,9 +1,11 @@
 // The calls of the library run on file A of the scope of work, on P5 to P12, and on both sides of every bound, in files of
 // both orders, one line a case. The cases are the script on standard input; their lines are held to the file stdout.
 mod answers;
+mod batching;
 mod every;
 mod files;
 mod first_record;
+mod lists;
 mod printing;
 mod reading;
 mod writing;
@@ -15,6 +17,7 @@ use answers::opened;
 use answers::sectioned;
 use answers::shown;
 use answers::tabled;
+use batching::batch_in;
 use every::every_in;
 use files::ROOM;
 use files::fill;
@@ -39,6 +42,9 @@ use writing::create_in;
 ghost use Prim.Native.Nat.{_≤_};
 ghost use mathlib.Core.Path.{_≡_};
 ghost use lib.ListN.{length};
+
+// A script has fewer bytes than this.
+const SCRIPT: usize = 131072;
 
 // Runs a command that reads the lent bytes.
 fn ask(command: usize, a: u64, b: u64, name: &[u8], file: &[u8]) {
@@ -73,6 +79,7 @@ fn run(command: usize, values: &[i64], rest: &[u8], name: &[u8], room: &mut [u8]
         7 => create_in(values, name, room, lent),
         8 => append_in(values, rest, name, room, lent),
         9 => every_in(a, name, room, lent),
+        20 => batch_in(values, rest, name, room, lent),
         _ => ask(command, a, b, name, &room[0..lent]),
     }
 }
@@ -82,6 +89,7 @@ fn takes(command: usize, count: usize, more: bool) -> bool {
     match command {
         2 | 3 => more && count == 0,
         8 => count == 4,
+        20 => count == 5,
         4 | 5 | 6 => !more,
         7 => !more && count == 8,
         0 | 16 | 19 => !more && count == 2,
@@ -140,7 +148,7 @@ fn run_line(line: &[u8], room: &mut [u8], lent: usize) -> usize
     let head = &line[0..colon];
     let end = find(head, 0, b' ');
     let command = position(
-        b"file lend keep take put1 put4 put8 create append every validate describe extension open tables index section data check words",
+        b"file lend keep take put1 put4 put8 create append every validate describe extension open tables index section data check words batch",
         &head[0..end],
     );
     let name = bytes_of(line, colon + 2, line.len());
@@ -160,6 +168,11 @@ fn run_lines(script: &[u8], room: &mut [u8])
     }
 }
 
+// The bytes that the script is read into, empty.
+fn unread() -> [u8; SCRIPT] {
+    [0; SCRIPT]
+}
+
 // The room, empty.
 fn space() -> [u8; ROOM] {
     [0; ROOM]
@@ -167,7 +180,7 @@ fn space() -> [u8; ROOM] {
 
 // Reads the script and runs it.
 fn main() {
-    let mut script = io::large_buffer();
+    let mut script = unread();
     let mut room = space();
     let count = io::read_full(STDIN_FILENO, &mut script);
     if count == script.len() {

@@ -50,7 +50,9 @@ pub(crate) const EVERY_ON: usize = 42;
 
 pub(crate) const EVERY_END: usize = 44;
 
-pub(crate) const END: usize = 46;
+pub(crate) const BATCH: usize = 46;
+
+pub(crate) const END: usize = 48;
 
 // Writes one byte.
 fn single(byte: u8) {
@@ -138,7 +140,8 @@ pub(crate) fn print(form: usize, refusal: u64, name: &[u8], a: u64, b: u64, c: u
         append %: entry A\n|append %: refused R| \
         unchanged| changed|\
         every call, %: validate A extension B open C index D|| \
-        section A data B check C D|| append A||\n||";
+        section A data B check C D|| append A||\
+        batch %: accepted A|batch %: accepted A refused R|\n||";
     spell(forms, chosen(form, refusal), refusal, name, a, b, c, d);
 }
 

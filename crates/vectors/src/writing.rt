@@ -1,34 +1,24 @@
 // The calls that change a file: create and append.
 use super::files::changed;
-use super::files::put_all;
 use super::files::save;
+use super::lists::ends;
+use super::lists::int4_at;
+use super::lists::read_lists;
 use super::printing::APPEND;
 use super::printing::CHANGED;
 use super::printing::CREATE;
 use super::printing::CREATE_END;
 use super::printing::end;
 use super::printing::print;
-use super::printing::wrong;
-use super::reading::Read;
 use super::reading::bits_at;
-use super::reading::find;
-use super::reading::int4;
-use super::reading::list;
-use super::reading::position;
 use classic::Appended;
 use classic::Settings;
 use classic::append;
 use classic::create;
 use classic::validate;
-use words::ByteOrder;
 ghost use Prim.Native.Nat.{_≤_};
 ghost use mathlib.Core.Path.{_≡_};
 ghost use lib.ListN.{length};
-
-// An Integer*4 of a list.
-fn int4_at(values: &[i64], i: usize) -> i32 {
-    int4(bits_at(values, i))
-}
 
 // The settings as the first record has them, from its code on.
 fn settings(values: &[i64]) -> Settings {
@@ -77,54 +67,6 @@ pub(crate) fn create_in(values: &[i64], name: &[u8], room: &mut [u8], lent: usiz
     }
 }
 
-// Reads the list behind a label of an append; nothing if the label is another.
-fn labelled(bytes: &[u8], at: usize, label: usize, values: &mut [i64]) -> Read
-    ensures { λ r. ⌜ r .count ≤ length (now (values .entry)) ⌝ }
-{
-    if bytes.len() <= at {
-        return Read { count: 0, next: at };
-    }
-    let from = at + 1;
-    let end = find(bytes, from, b' ');
-    if position(b"ids lengths words", &bytes[from..end]) != label {
-        return Read { count: 0, next: at };
-    }
-    list(bytes, end, values)
-}
-
-// Takes the numbers of a list as identifiers.
-fn identifiers(values: &[i64], ids: &mut [i32])
-    requires { ⌜ length (now values) ≤ length (now ids) ⌝ }
-{
-    for i in 0..values.len() {
-        let id = int4_at(values, i);
-        ids[i] = id;
-    }
-}
-
-// A count of bytes that an append takes.
-fn size(bits: u64) -> usize
-    ensures { λ r. ⌜ r ≤ 272 ⌝ }
-{
-    if bits <= 272 {
-        bits as usize
-    } else {
-        wrong();
-        0
-    }
-}
-
-// Reads the words listed, those of the index, the sections and the data, as bytes, the least significant first.
-fn listed_words(lists: &[u8], at: usize, bytes: &mut [u8]) {
-    let mut values = [0i64; 66];
-    let read = labelled(lists, at, 2, &mut values);
-    let count = read.count;
-    put_all(ByteOrder(0), bytes, 0, 4, &values[0..count]);
-    if read.next != lists.len() {
-        wrong();
-    }
-}
-
 // Appends with identifiers, lengths, and the bytes of the index, the sections and the data one after another.
 fn append_parts(
     numbers: &[i64],
@@ -135,9 +77,10 @@ fn append_parts(
 ) -> Appended
     requires { ⌜ 816 ≤ length (now bytes) ⌝ }
 {
-    let i = size(bits_at(numbers, 1));
-    let s = i + size(bits_at(numbers, 2));
-    let d = s + size(bits_at(numbers, 3));
+    let parts = ends(numbers, 1);
+    let i = parts.index;
+    let s = parts.sections;
+    let d = parts.values;
     append(
         file,
         int4_at(numbers, 0),
@@ -149,42 +92,15 @@ fn append_parts(
     )
 }
 
-// Appends with identifiers and lengths.
-fn append_words(
-    numbers: &[i64],
-    lists: &[u8],
-    at: usize,
-    ids: &[i32],
-    lengths: &[i64],
-    file: &mut [u8],
-) -> Appended {
-    let mut bytes = [0u8; 816];
-    listed_words(lists, at, &mut bytes);
-    append_parts(numbers, &bytes, ids, lengths, file)
-}
-
-// Appends with identifiers.
-fn append_lengths(
-    numbers: &[i64],
-    lists: &[u8],
-    at: usize,
-    ids: &[i32],
-    file: &mut [u8],
-) -> Appended {
-    let mut lengths = [0i64; 65];
-    let read = labelled(lists, at, 1, &mut lengths);
-    let count = read.count;
-    append_words(numbers, lists, read.next, ids, &lengths[0..count], file)
-}
-
 // Appends what a line hands in: version, bytes of index, sections and data, then lists behind their labels.
 pub(crate) fn append_line(numbers: &[i64], lists: &[u8], file: &mut [u8]) -> Appended {
-    let mut values = [0i64; 65];
     let mut ids = [0i32; 65];
-    let read = labelled(lists, 0, 0, &mut values);
-    let count = read.count;
-    identifiers(&values[0..count], &mut ids);
-    append_lengths(numbers, lists, read.next, &ids[0..count], file)
+    let mut lengths = [0i64; 65];
+    let mut bytes = [0u8; 816];
+    let listed = read_lists(lists, 0, &mut ids, &mut lengths, &mut bytes);
+    let named = listed.ids;
+    let measured = listed.lengths;
+    append_parts(numbers, &bytes, &ids[0..named], &lengths[0..measured], file)
 }
 
 // Writes the line of an append.
