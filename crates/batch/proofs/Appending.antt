@@ -1,7 +1,7 @@
 -- An append to a file that validates with numbers and addresses at hand: its answer and the file after it are those of an append from them, and where it is
 -- accepted the file after it validates with the numbers and addresses that it gave. Assumes nothing.
 use Prim.Native.Nat.{ℕ}
-use mathlib.Core.Path.{_≡_, refl, sym, subst₂, _∙_}
+use mathlib.Core.Path.{_≡_, subst₂}
 use mathlib.Core.List.{List}
 use borrow.Author.Tests.{eqb-true, eqb-false}
 use lib.Dec.{eqb}
@@ -18,7 +18,7 @@ use Rattle.descriptor.proofs.Answered.{answer-numbers, told}
 use Rattle.storing.specs.Handed.{Handed}
 use Rattle.writer.specs.Rules.{appendRefusal}
 use Rattle.writer.specs.Answers.{appendedFrom, fileFrom, appendIn, fileIn, appendOf, fileAfter}
-use Rattle.written.proofs.ReadBack.{Shown, shows, admits, validated-after}
+use Rattle.written.proofs.ReadBack.{shows, admits, validated-after}
 
 -- a file whose validation gave numbers validates with them and the addresses beside them
 pub validates-told : (file : List ℕ) (v : Validation) (d : DescriptorNumbers) → v ≡ validationOf file → v .numbers ≡ Numbers d → Validates file d (v .addresses)

@@ -69,10 +69,11 @@ module _ (first : List ℕ) (b : Batch) where
         (sym (p .answer ∙ ap (answerInTurn k file) none), sym (p .leaves ∙ ap (fileInTurn file) none))
 
     module _ (h : k < length (b .versions)) where
-      -- the counts and the version of entry k
+      -- the counts of entry k
       abbrev pub counts : List ℕ
       counts = getD (b .counts) k []
 
+      -- and its version
       abbrev pub version : ℤ
       version = getD (b .versions) k (pos 0)
 

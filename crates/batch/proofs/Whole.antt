@@ -6,7 +6,7 @@ use mathlib.Core.List.{List, []}
 use native.Mathlib.Omega.{arith}
 use borrow.Author.Tests.{eqb-true, eq-eqb, ne-eqb}
 use lib.Dec.{eqb}
-use lib.ListN.{length, getD}
+use lib.ListN.{length}
 use Rattle.outcome.proofs.Either.{either}
 use Rattle.descriptor.specs.declared.validating.Validated.{Validated}
 use Rattle.descriptor.specs.declared.validating.Validated.the-variants.{Refused}

@@ -1,7 +1,7 @@
 -- `batch::batching::append_in_turn` meets its contract. The loop's invariant: what the batch does is what its entries from here on do to the file as it is, and
 -- the numbers and addresses at hand are the file's. Assumes nothing.
 use mathlib.Core.Path.{_≡_, refl}
-use Prim.Native.Nat.{ℕ, _-_}
+use Prim.Native.Nat.{_-_}
 use native.Mathlib.Omega.{arith}
 use borrow.Author.Needs.{needs}
 use denote.Ref.{now}

@@ -7,8 +7,9 @@ use Rattle.batch.proofs.turn.append_between.Tie as tie
 returns : tie.Need-returns
 returns c =
     let r = c .before .before in
-    let s = r .before .before .before .before .before .before .before .before .before .before .before in
-    rw (toZ-ofZ (s .fits .version)) at (r .append-from .ensures)
+    let args = r .before .before .before .before in
+    let lent = args .before .before .before in
+    rw (toZ-ofZ (lent .before .before .before .before .fits .version)) at (r .append-from .ensures)
 
 pub append-between-spec : {M : Type 1} → statement M
 append-between-spec =

@@ -1,5 +1,4 @@
 -- `batch::turn::append_next` meets its contract: it appends what lies between the cursor and the one past its counts. Assumes nothing.
-use mathlib.Core.Path.{sym}
 use mir.Facts.{toZ-ofZ}
 use borrow.Author.Needs.{needs}
 use Rattle.batch.specs.Turn.{turnFrom}

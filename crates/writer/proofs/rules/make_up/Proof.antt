@@ -1,26 +1,18 @@
 -- `writer::rules::make_up` meets its contract. The loop's invariant: what is left and the lengths passed make up the bytes. Assumes nothing.
-use mathlib.Core.Path.{_≡_, refl, sym, _∙_}
-use mathlib.Core.Bool.{Bool, true, false}
-use Prim.Native.Nat.{ℕ, _+_, _*_, _-_, _/_, _≤_}
+use mathlib.Core.Path.{_≡_, sym}
+use Prim.Native.Nat.{_+_, _*_, _-_, _/_, _≤_}
 use native.Mathlib.Omega.{arith}
 use borrow.Author.Needs.{needs}
-use borrow.Author.Tests.{eq-eqb, ne-eqb, eqb-true, eqb-false}
+use borrow.Author.Tests.{ne-eqb}
 use denote.Ref.{now}
-use lib.Dec.{eqb}
 use lib.IntN.{pos}
 use lib.ListN.{length, getD, take}
 use lib.Seq.{take-all}
+use Rattle.descriptor.proofs.Tests.{same-test}
 use Rattle.storing.specs.Handed.{wordsOf, sumOf}
 use Rattle.storing.proofs.Lengths.{sum-next, sum-fewer, length-words}
 use Rattle.writer.proofs.rules.make_up.Statement.{statement}
 use Rattle.writer.proofs.rules.make_up.Tie as tie
-
-same-test : (a b c d : ℕ) → (a ≡ b → c ≡ d) → (c ≡ d → a ≡ b) → eqb a b ≡ eqb c d
-same-test a b c d there back = by (eqb a b) refl
-  where
-    by : (t : Bool) → eqb a b ≡ t → eqb a b ≡ eqb c d
-    by true e = e ∙ sym (eq-eqb c d (there (eqb-true a b e)))
-    by false e = e ∙ sym (ne-eqb c d (λ q. eqb-false a b e (back q)))
 
 abbrev Inv-loop : tie.InvT-loop
 Inv-loop lengths bytes left₀ passed₀ left passed = (passed ≤ length lengths) × (left + sumOf (take passed lengths) ≡ bytes / 4)
