@@ -1,4 +1,4 @@
-/* Writes the examples by the library: a.classic to f.classic in a folder. README.md says what each is.
+/* Writes the examples by the library: a.classic to g.classic in a folder. README.md says what each is.
    Usage: writer FOLDER */
 #include "classic.h"
 
@@ -97,6 +97,14 @@ static void append_together(const addition *additions, uint32_t count) {
     if (batched.refusal != 0) give_up("a batch is refused", batched.refusal);
 }
 
+/* Rewrites a section of an entry with up to 16 words that count up from a first one. */
+static void update(uint64_t entry, int32_t identifier, size_t words, uint32_t first) {
+    uint8_t content[64];
+    count_up(content, words, first);
+    uint32_t refusal = classic_update(file, bytes, entry, identifier, content, 4 * words);
+    if (refusal != 0) give_up("an update is refused", refusal);
+}
+
 /* Writes the first bytes of the file to a name in a folder. */
 static void save(const char *folder, const char *name, size_t count) {
     char path[4096];
@@ -127,13 +135,17 @@ static void make_a(int32_t order) {
 }
 
 /* a.classic, file A; d.classic, the same with its last record lost; f.classic, the same with an old address left in word
-   19, behind the two in use; e.classic, file A in the big order. */
+   19, behind the two in use; g.classic, file A with section 7 of entry 1 rewritten with two words; e.classic, file A in
+   the big order. */
 static void write_files_a(const char *folder) {
     make_a(CLASSIC_LITTLE);
     save(folder, "a.classic", bytes);
     save(folder, "d.classic", bytes - 4 * reclen);
     put4(file + 4 * (19 - 1), 7);
     save(folder, "f.classic", bytes);
+    make_a(CLASSIC_LITTLE);
+    update(1, 7, 2, 1100);
+    save(folder, "g.classic", bytes);
     make_a(CLASSIC_BIG);
     save(folder, "e.classic", bytes);
 }

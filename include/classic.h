@@ -49,12 +49,12 @@ extern "C" {
 
    Lending. The file is the caller's whole buffer; bytes past the next free word are free room and mean nothing.
    Every buffer belongs to the caller, is used during the call only, and is never kept or freed. A call reads and
-   writes within the given counts only. What is passed as const is not changed; create and append change the file
-   when they accept, and no byte of it when they refuse; append_batch changes it by the entries that it accepts, and
-   by no other byte. The buffers of one call must not overlap: append's file, index words, identifiers, lengths,
-   section bytes and data are apart, and so are append_batch's, with versions and counts. The file and byte buffers
-   need no alignment; versions, counts, ids and lengths are aligned as their types are. An empty buffer may be
-   (NULL, 0). Calls that only read may share a file between threads.
+   writes within the given counts only. What is passed as const is not changed; create, append and update change the
+   file when they accept, and no byte of it when they refuse; append_batch changes it by the entries that it accepts,
+   and by no other byte. The buffers of one call must not overlap: append's file, index words, identifiers, lengths,
+   section bytes and data are apart, so are append_batch's, with versions and counts, and so are update's file and
+   content. The file and byte buffers need no alignment; versions, counts, ids and lengths are aligned as their types
+   are. An empty buffer may be (NULL, 0). Calls that only read may share a file between threads.
 
    Answers are given by value and belong to the caller. A part is a place in the lent file, not a copy: its bytes are
    file + start to file + start + length, as long as the file is lent and unchanged. Each answer has a refusal, 0
@@ -63,8 +63,9 @@ extern "C" {
 
 /* The refusals, in the order in which they are tested, which is not that of their numbers: a call gives the first that
    applies. Every call but create tests 1 to 11 and then 29; create tests 1 to 8 on its settings. extension_of adds 12;
-   open, index_words and data add 12 to 19, section adds 20 to these; append adds 21 to 24; check adds 13 to 19 for each
-   entry, and 25. append_batch tests 26 before all others, and then as append does for each entry in turn. */
+   open, index_words and data add 12 to 19, section adds 20 to these, and update 28 to those of section; append adds 21
+   to 24; check adds 13 to 19 for each entry, and 25. append_batch tests 26 before all others, and then as append does
+   for each entry in turn. */
 enum classic_refusal {
     CLASSIC_ACCEPTED = 0,        /* no refusal */
     CLASSIC_BATCH_COUNTS = 26,   /* append_batch: over 64 entries, rows of counts and versions not as many, or a column
@@ -91,6 +92,7 @@ enum classic_refusal {
     CLASSIC_SECTION_PLACE = 18,  /* a section has no word, or does not stand within the entry's content */
     CLASSIC_SHARED_WORD = 19,    /* two of the sections and the data share a word */
     CLASSIC_NO_SECTION = 20,     /* the entry has no section with the identifier */
+    CLASSIC_UPDATE_CONTENT = 28, /* update: the content is empty, not whole words, or larger than the section's space */
     CLASSIC_APPEND_INDEX = 21,   /* append: the index words are not 4 x (lind - 3) bytes */
     CLASSIC_APPEND_PARTS = 22,   /* append: over 64 identifiers, lengths not as many, a repeated identifier, a length
                                     below 1, section bytes not 4 x the sum of the lengths, or data not whole words */
@@ -216,6 +218,13 @@ classic_batched classic_append_batch(uint8_t *file, size_t bytes,
                                      const int64_t *lengths, size_t length_count,
                                      const uint8_t *sections, size_t section_bytes,
                                      const uint8_t *data, size_t data_bytes);
+
+/* Rewrites the first section of an entry that has the identifier, within the space that its length field gives it, and
+   answers the refusal. The content goes to the section's start and the rest of the space becomes zero: the section
+   keeps its length, and hands out the content with zeros behind it. No other byte of the file changes. The words
+   are written also where another entry shares them; in a file that passes check none does. */
+uint32_t classic_update(uint8_t *file, size_t bytes, uint64_t entry, int32_t identifier,
+                        const uint8_t *content, size_t content_bytes);
 
 #ifdef __cplusplus
 }

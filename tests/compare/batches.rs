@@ -1,7 +1,7 @@
 //! The cases of batches: of every number of entries, with a refusal at every place, over files that are refused, with
-//! wrong counts, and in series with appends.
+//! wrong counts, and with appends between them.
 
-use crate::cases::{append, begin_series, disorder, end_series, read_entry};
+use crate::cases::{append, disorder, read_entry};
 use crate::damage::{edges, fields};
 use crate::files::{self, area_words, make, make_full, most_extensions, together, Shape};
 use crate::random::Random;
@@ -269,18 +269,4 @@ pub fn any_batches(random: &mut Random, script: &mut Script) {
             look(random, script);
         }
     }
-}
-
-/// A series of appends and batches good and bad.
-pub fn batch_series(random: &mut Random, script: &mut Script) {
-    let lind = begin_series(random, script);
-    for _ in 0..random.from(3, 12) {
-        if random.once_in(2) {
-            append(random, script, lind, 4);
-        } else {
-            let batch = any_batch(random, lind);
-            script.call(Call::AppendBatch(batch));
-        }
-    }
-    end_series(script);
 }

@@ -9,13 +9,15 @@ use crate::files::{self, area_words, make, make_full, most_extensions, put_bare,
 use crate::random::Random;
 use crate::reference::{self, Addition, Order, Settings};
 use crate::script::{Asked, Call, Script};
+use crate::series;
 use crate::sweeps::{laid, sweep};
+use crate::updates::{self, any_update};
 
 /// What writes a case of a kind into a script.
 type Kind = fn(&mut Random, &mut Script);
 
 /// How many cases there are of each kind in each order, one kind after another.
-const PLAN: [(usize, Kind); 23] = [
+const PLAN: [(usize, Kind); 32] = [
     (1, examples),
     (20, every_edge),
     (6, last_of_64),
@@ -37,13 +39,23 @@ const PLAN: [(usize, Kind); 23] = [
     (4, batches::refused_files),
     (12, batches::wrong_counts),
     (100, batches::any_batches),
-    (SERIES, series),
-    (BATCH_SERIES, batches::batch_series),
+    (40, updates::every_section),
+    (8, updates::not_there),
+    (20, updates::twice),
+    (4, updates::every_edge),
+    (6, updates::other_lengths),
+    (30, updates::shared),
+    (12, updates::neighbours),
+    (150, updates::any_updates),
+    (SERIES, series::of_appends),
+    (BATCH_SERIES, series::with_batches),
+    (UPDATE_SERIES, series::with_updates),
 ];
 
-/// The numbers of series in each order, of appends and with batches; they are the last cases.
+/// The numbers of series in each order, of appends, with batches, and with updates; they are the last cases.
 const SERIES: usize = 250;
 const BATCH_SERIES: usize = 100;
+const UPDATE_SERIES: usize = 120;
 
 /// The number of cases.
 pub fn count() -> usize {
@@ -52,7 +64,7 @@ pub fn count() -> usize {
 
 /// Says whether a case is a series for demand 3.
 pub fn is_series(case: usize) -> bool {
-    case >= count() - 2 * (SERIES + BATCH_SERIES)
+    case >= count() - 2 * (SERIES + BATCH_SERIES + UPDATE_SERIES)
 }
 
 /// Makes a case.
@@ -87,7 +99,7 @@ fn kind_of(case: usize) -> (Kind, usize) {
 }
 
 /// A number to ask for: mostly one of 1 to last, else one past an edge.
-fn number(random: &mut Random, last: usize) -> u64 {
+pub fn number(random: &mut Random, last: usize) -> u64 {
     let last = last as u64;
     if last > 0 && !random.once_in(4) {
         return random.from(1, last as usize) as u64;
@@ -139,15 +151,21 @@ pub fn append(random: &mut Random, script: &mut Script, lind: i32, spoiled: usiz
     script.call(Call::Append(a))
 }
 
-/// Each edge value in each field of a small file.
-fn every_edge(random: &mut Random, script: &mut Script) {
-    let mut shape = files::shape(random, script.order);
+/// The shape of a small file, with two or three entries of up to three sections.
+pub fn small_shape(random: &mut Random, order: Order) -> Shape {
+    let mut shape = files::shape(random, order);
     shape.settings.reclen = random.pick(&[18, 20, 24, 32, 48]);
     shape.settings.lind = shape.settings.lind.min(12);
     shape.settings.lex1 = random.from(1, 2) as i32;
     shape.entries = random.from(2, 3).min(together(&shape.settings, 2));
     shape.most_sections = 3;
     shape.spare_records = 4;
+    shape
+}
+
+/// Each edge value in each field of a small file.
+fn every_edge(random: &mut Random, script: &mut Script) {
+    let shape = small_shape(random, script.order);
     let made = make(random, &shape);
     script.lend(&made.bytes, made.bytes.len());
     damage_each(random, script, &made, &fields(&made));
@@ -333,6 +351,7 @@ fn other_codes(random: &mut Random, script: &mut Script) {
         script.poke(0, &code);
         all_readings(random, script, &made, 1);
         append(random, script, shape.settings.lind, 8);
+        script.call(Call::Update(any_update(random, &made.bytes, 1)));
     }
     for order in Order::BOTH {
         script.again();
@@ -384,12 +403,12 @@ fn leftovers(random: &mut Random, script: &mut Script) {
                 script.again();
                 script.poke(4 * (word - 1) + random.from(0, 3), &[1 << random.from(0, 7)]);
                 script.call(Call::Validate);
-                read_or_append(random, script, &made);
+                read_or_write(random, script, &made);
             }
         }
         if extensions > 0 {
             script.poke(4 * 14, &script.order.bytes8(1));
-            read_or_append(random, script, &made);
+            read_or_write(random, script, &made);
         }
     }
     script.call(Call::Create(settings));
@@ -397,13 +416,13 @@ fn leftovers(random: &mut Random, script: &mut Script) {
     append(random, script, lind, 8);
 }
 
-/// A call that reads, about the first entry, or an append.
-fn read_or_append(random: &mut Random, script: &mut Script, made: &Made) {
-    if random.once_in(4) {
-        append(random, script, made.settings.lind, 8);
-    } else {
-        script.call(reading(random, made, 1));
-    }
+/// A call that reads, about the first entry, an update of it, or an append.
+fn read_or_write(random: &mut Random, script: &mut Script, made: &Made) {
+    match random.from(1, 4) {
+        1 => append(random, script, made.settings.lind, 8),
+        2 => script.call(Call::Update(any_update(random, &made.bytes, 1))),
+        _ => script.call(reading(random, made, 1)),
+    };
 }
 
 /// Puts a shape's entries out of order, lets them overlap or have 65 sections, once in so many times.
@@ -437,6 +456,9 @@ fn damaged(random: &mut Random, script: &mut Script) {
             append(random, script, shape.settings.lind, 8);
             script.call(Call::Check);
         }
+        if random.once_in(3) {
+            script.call(Call::Update(any_update(random, &made.bytes, entry)));
+        }
     }
 }
 
@@ -459,7 +481,7 @@ fn whole(random: &mut Random, script: &mut Script) {
 }
 
 /// Reads each entry of the script's file with its index words, sections and data.
-fn read_all(script: &mut Script) {
+pub fn read_all(script: &mut Script) {
     let entries = reference::validate(&script.file).map_or(0, |d| d.entries() as u64);
     for entry in 1..=entries {
         read_entry(script, entry);
@@ -540,12 +562,9 @@ fn appends(random: &mut Random, script: &mut Script) {
 fn fit_exactly(random: &mut Random, script: &mut Script, lind: i32) {
     let index = random.bytes(4 * (lind as usize - 3));
     let bare = Addition { index, ..Addition::default() };
-    let mut file = script.file.clone();
-    let free = match reference::append(&mut file, &bare).and_then(|_| reference::validate(&file)) {
-        Ok(d) => d.free() as usize,
-        Err(_) => return,
+    let Some(left) = left_behind(&script.file, &bare) else {
+        return;
     };
-    let left = file.len() / 4 - free;
     for words in [left.saturating_sub(1), left, left + 1] {
         script.again();
         script.call(Call::Append(Addition { data: random.bytes(4 * words), ..bare.clone() }));
@@ -554,34 +573,10 @@ fn fit_exactly(random: &mut Random, script: &mut Script, lind: i32) {
     }
 }
 
-/// A series of appends good and bad.
-fn series(random: &mut Random, script: &mut Script) {
-    let lind = begin_series(random, script);
-    for _ in 0..random.from(4, 40) {
-        append(random, script, lind, 4);
-    }
-    end_series(script);
-}
-
-/// Begins a series with a created file or with one in order, of which all entries are read; gives the file's lind.
-pub fn begin_series(random: &mut Random, script: &mut Script) -> i32 {
-    let mut shape = files::shape(random, script.order);
-    shape.settings.lex1 += random.pick(&[0, 1, 6]);
-    shape.spare_records = 1 + random.from(100, 9000) / shape.settings.reclen as usize;
-    if random.once_in(2) {
-        let made = make(random, &shape);
-        script.lend(&made.bytes, made.bytes.len());
-    } else {
-        let bytes = random.bytes(4 * (1 + shape.spare_records) * shape.settings.reclen as usize);
-        script.lend(&bytes, bytes.len());
-        script.call(Call::Create(shape.settings));
-    }
-    read_all(script);
-    shape.settings.lind
-}
-
-/// Ends a series: all entries are read, and the order is checked.
-pub fn end_series(script: &mut Script) {
-    read_all(script);
-    script.call(Call::Check);
+/// The words that an append would leave free, if it were accepted.
+pub fn left_behind(file: &[u8], a: &Addition) -> Option<usize> {
+    let mut file = file.to_vec();
+    reference::append(&mut file, a).ok()?;
+    let free = reference::validate(&file).ok()?.free() as usize;
+    Some(file.len() / 4 - free)
 }

@@ -3,9 +3,9 @@
 
    A case is its size (8 bytes) and its steps; numbers are little-endian. Steps: 'F' total, count, bytes: lends a file
    of total bytes that begins with these; 'A': the file as it was lent; 'P' place, count, bytes: changes the file;
-   '0' to '9': a call, with a byte that says whether empty slices are (NULL, 0), and its arguments. Each field of an
-   answer is 8 bytes; after create, append and append_batch the count and the bytes of the file's part that 'F' gave
-   follow. */
+   '0' to '9' and ':', which is behind '9': a call, with a byte that says whether empty slices are (NULL, 0), and its
+   arguments. Each field of an answer is 8 bytes; after create, append, append_batch and update the count and the bytes
+   of the file's part that 'F' gave follow. */
 #define _DEFAULT_SOURCE
 #include "classic.h"
 
@@ -262,6 +262,21 @@ static void call_append_batch(uint8_t *bytes, int null) {
     give_back(&data);
 }
 
+/* Updates a section by the content that the case gives, in a block of its own: its size, and the bytes that it begins
+   with; of those behind them none may be touched. */
+static void call_update(uint8_t *bytes, int null) {
+    uint64_t entry = take_number(8);
+    int32_t identifier = take_integer();
+    size_t total = take_number(8), shown = take_number(8);
+    if (shown > total) give_up("more bytes than the content has");
+    block content = lend(take(shown), shown, total);
+    allow(&file, PROT_READ | PROT_WRITE);
+    put(classic_update(bytes, file.size, entry, identifier, pointer(&content, null), content.size));
+    allow(&file, PROT_READ);
+    put_file();
+    give_back(&content);
+}
+
 /* Makes the call of a number. */
 static void call(int which) {
     int null = (int)take_number(1);
@@ -277,6 +292,7 @@ static void call(int which) {
     case '7': call_check(bytes); break;
     case '8': call_append(bytes, null); break;
     case '9': call_append_batch(bytes, null); break;
+    case ':': call_update(bytes, null); break;
     default: give_up("a step that is not known");
     }
     if (fflush(stdout) != 0) give_up("standard output");

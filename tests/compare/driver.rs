@@ -10,7 +10,7 @@ pub struct Driver {
     answers: BufReader<ChildStdout>,
 }
 
-/// What the library gave: every field in the header's order, and after a creation, append or batch the file's bytes.
+/// What the library gave: every field in the header's order, and after a call that may change the file its bytes.
 pub struct Given {
     pub fields: Vec<u64>,
     pub after: Option<Vec<u8>>,

@@ -1,10 +1,10 @@
 //! The examples that document 01 works by hand, with the capacities of Q-2 in document 02 and in both orders of Q-4, and
-//! those of, as the first cases: the reference must give the numbers and bytes written here, and the
+//! those of, as the first cases: the reference must give the numbers and bytes written here, and the
 //! library is compared with the reference.
 
 use crate::files::make_full;
 use crate::random::Random;
-use crate::reference::{Addition, Batch, Order, Settings};
+use crate::reference::{Addition, Batch, Order, Settings, Update};
 use crate::script::{Call, Script};
 use crate::sweeps::laid;
 
@@ -44,6 +44,7 @@ pub fn examples(_: &mut Random, script: &mut Script) {
     leftovers(script);
     batches(script);
     a_by_a_batch(script);
+    updates(script);
 }
 
 /// P1 to P5 and the listing: file A, and with a record fewer.
@@ -219,5 +220,41 @@ fn a_by_a_batch(script: &mut Script) {
         if records == 6 {
             bytes_of_a(script);
         }
+    }
+}
+
+/// file A after (2), of which section 7 has words 57 to 59. Updates that are refused change nothing; one word, two
+/// and three go to the section's start, with zeros behind them, and all else stays.
+fn updates(script: &mut Script) {
+    let [first, second, _] = additions();
+    let update = |entry, identifier, bytes: usize| {
+        Call::Update(Update { entry, identifier, content: (101..).take(bytes).collect(), beyond: 0 })
+    };
+    script.lend(&[0xff; 480], 480);
+    expect(script, "creating A", Call::Create(settings(script.order, 20, 4, 2, 20)), &[0]);
+    expect(script, "append (1)", Call::Append(first), &[0, 1]);
+    expect(script, "append (2)", Call::Append(second), &[0, 2]);
+    let mut wanted = script.file.clone();
+    for bytes in [0, 1, 3, 4, 5, 11, 12, 13, 16] {
+        expect(script, "Q-3, entry 0", update(0, 7, bytes), &[12]);
+        expect(script, "Q-3, entry 3", update(3, 7, bytes), &[12]);
+        expect(script, "Q-3, identifier 8", update(1, 8, bytes), &[20]);
+        expect(script, "Q-3, no sections", update(2, 7, bytes), &[20]);
+    }
+    for bytes in [0, 1, 2, 3, 5, 11, 13, 16] {
+        expect(script, "Q-3, a content that does not fit", update(1, 7, bytes), &[28]);
+    }
+    assert_eq!(script.file, wanted, "the reference changes a file by an update that it refuses");
+    let contents: [[u8; 12]; 3] = [
+        [101, 102, 103, 104, 105, 106, 107, 108, 109, 110, 111, 112],
+        [101, 102, 103, 104, 0, 0, 0, 0, 0, 0, 0, 0],
+        [101, 102, 103, 104, 105, 106, 107, 108, 0, 0, 0, 0],
+    ];
+    for (bytes, content) in [12, 4, 8].into_iter().zip(contents) {
+        expect(script, "Q-3, a content that fits", update(1, 7, bytes), &[0]);
+        wanted[4 * 56..4 * 59].copy_from_slice(&content);
+        assert_eq!(script.file, wanted, "the reference fails the bytes of A after an update");
+        expect(script, "Q-3, the section", Call::Section(1, 7), &[0, 4 * 56, 12]);
+        expect(script, "Q-3, the order of A", Call::Check, &[0, 0]);
     }
 }

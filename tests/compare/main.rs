@@ -12,8 +12,10 @@ mod files;
 mod random;
 mod reference;
 mod script;
+mod series;
 mod sweeps;
 mod table;
+mod updates;
 
 use driver::{Driver, Given};
 use reference::Order;
@@ -52,14 +54,15 @@ struct Comparison {
     table: Table,
 }
 
-/// The series of one order: how many, how many that fail demand 3, and the appends in them, those of batches too.
+/// The series of one order: how many, how many that fail demand 3, the batches in them, and the appends, those of batches
+/// too, and the updates, accepted and refused.
 #[derive(Default)]
 struct Series {
     made: usize,
     failed: usize,
     batches: usize,
-    accepted: u64,
-    refused: u64,
+    appends: [u64; 2],
+    updates: [u64; 2],
 }
 
 /// Tests that passed and failed.
@@ -126,10 +129,9 @@ impl Comparison {
         let series = &mut self.series[script.order as usize];
         series.made += 1;
         for (asked, given) in script.asked.iter().zip(given) {
-            let (accepted, refused) = demand::appends(&asked.call, &given.fields);
             series.batches += matches!(asked.call, Call::AppendBatch(_)) as usize;
-            series.accepted += accepted;
-            series.refused += refused;
+            add(&mut series.appends, demand::appends(&asked.call, &given.fields));
+            add(&mut series.updates, demand::updates(&asked.call, &given.fields));
         }
         if let Some(fault) = demand::fault(&script.lent, &script.asked, given) {
             series.failed += 1;
@@ -194,10 +196,11 @@ impl Comparison {
         for (call, name) in CALLS.iter().enumerate() {
             judge(name, "calls", self.calls[call], self.differing[call]);
         }
-        judge("bytes", "files after create, append and append_batch", self.files, self.differing_files);
+        judge("bytes", "files after create, append, append_batch and update", self.files, self.differing_files);
         for (order, series) in Order::BOTH.iter().zip(&self.series) {
-            let appends = format!("{} appends accepted and {} refused", series.accepted, series.refused);
-            let things = format!("series with {} batches, {appends}", series.batches);
+            let said = |[accepted, refused]: [u64; 2]| format!("{accepted} accepted and {refused} refused");
+            let (appends, updates) = (said(series.appends), said(series.updates));
+            let things = format!("series with {} batches, appends {appends}, updates {updates}", series.batches);
             judge(&format!("demand 3, {}", order.name()), &things, series.made, series.failed);
         }
     }
@@ -227,6 +230,11 @@ impl Verdict {
             self.failed += 1;
         }
     }
+}
+
+/// Adds to each of two counts.
+fn add(counts: &mut [u64; 2], more: [u64; 2]) {
+    counts.iter_mut().zip(more).for_each(|(count, more)| *count += more);
 }
 
 /// A list as a phrase.

@@ -1,11 +1,13 @@
 //! A script is one case: a file, changes to it and calls, as the driver reads them, and for each call the answer
 //! that the reference gives at that place.
 
-use crate::reference::{self, Addition, Batch, Order, Refusal, Settings};
+use crate::reference::{self, Addition, Batch, Order, Refusal, Settings, Update};
 
 /// The calls of the interface, in the order of their numbers in the driver's protocol.
-pub const CALLS: [&str; 10] =
-    ["create", "validate", "extension_of", "open", "index_words", "section", "data", "check", "append", "append_batch"];
+pub const CALLS: [&str; 11] = [
+    "create", "validate", "extension_of", "open", "index_words", "section", "data", "check", "append", "append_batch",
+    "update",
+];
 
 /// One call with its arguments, the file aside.
 #[derive(Clone, Debug)]
@@ -20,6 +22,7 @@ pub enum Call {
     Check,
     Append(Addition),
     AppendBatch(Batch),
+    Update(Update),
 }
 
 /// An answer: every field in the header's order, and for the table the refusal with the way it came about.
@@ -29,8 +32,8 @@ pub struct Answer {
     pub fields: Vec<u64>,
 }
 
-/// A call of a script, the order that it counts for, the reference's answer, and after a creation, append or batch the
-/// file's bytes.
+/// A call of a script, the order that it counts for, the reference's answer, and after a call that may change the file
+/// the file's bytes.
 pub struct Asked {
     pub order: Order,
     pub call: Call,
@@ -73,6 +76,18 @@ impl Asked {
             _ => None,
         }
     }
+
+    /// What the content of an update is, whatever the space: 0 is empty, 1 not whole words, 2 whole words that are more
+    /// than any section has, 3 others.
+    pub fn content(&self) -> Option<usize> {
+        match &self.call {
+            Call::Update(u) if u.bytes() == 0 => Some(0),
+            Call::Update(u) if u.bytes() % 4 != 0 => Some(1),
+            Call::Update(u) if u.beyond > 0 => Some(2),
+            Call::Update(_) => Some(3),
+            _ => None,
+        }
+    }
 }
 
 impl Call {
@@ -89,13 +104,14 @@ impl Call {
             Call::Check => 7,
             Call::Append(_) => 8,
             Call::AppendBatch(_) => 9,
+            Call::Update(_) => 10,
         }
     }
 
     /// The name of a field of the answer.
     pub fn field(&self, i: usize) -> String {
         let names: &[&str] = match self {
-            Call::Create(_) => &["refusal"],
+            Call::Create(_) | Call::Update(_) => &["refusal"],
             Call::Validate => &[
                 "refusal", "order", "reclen", "kind", "vind", "lind", "flags", "xnext", "nextrec", "nextword", "lex1",
                 "nex", "gex",
@@ -133,11 +149,14 @@ impl Call {
                 b.counts,
                 b.lent()
             ),
+            Call::Update(u) => {
+                format!("update (entry {}, identifier {}, {} content bytes)", u.entry, u.identifier, u.bytes())
+            }
             _ => format!("{self:?}"),
         }
     }
 
-    /// The reference's answer; create, append and append_batch change the file.
+    /// The reference's answer; create, append, append_batch and update change the file.
     fn answer(&self, file: &mut [u8]) -> Answer {
         match self {
             Call::Create(settings) => refusal_first(reference::create(file, settings).map(|()| vec![]), 0),
@@ -152,6 +171,7 @@ impl Call {
             Call::Check => check(reference::check(file)),
             Call::Append(a) => refusal_first(reference::append(file, a).map(|number| vec![number as i128]), 1),
             Call::AppendBatch(b) => batched(reference::append_batch(file, b)),
+            Call::Update(u) => refusal_first(reference::update(file, u).map(|()| vec![]), 0),
         }
     }
 
@@ -184,6 +204,12 @@ impl Call {
                 }
                 encode_bytes(out, &b.sections);
                 encode_bytes(out, &b.data);
+            }
+            Call::Update(u) => {
+                out.extend(u.entry.to_le_bytes());
+                out.extend(u.identifier.to_le_bytes());
+                out.extend(u.bytes().to_le_bytes());
+                encode_bytes(out, &u.content);
             }
         }
     }
@@ -301,7 +327,7 @@ impl Script {
         let order = self.order_of(&call);
         let answer = call.answer(&mut self.file);
         let refusal = answer.refusal;
-        let changes = matches!(call, Call::Create(_) | Call::Append(_) | Call::AppendBatch(_));
+        let changes = matches!(call, Call::Create(_) | Call::Append(_) | Call::AppendBatch(_) | Call::Update(_));
         let after = if changes { Some(self.file[..self.lent.len()].to_vec()) } else { None };
         self.asked.push(Asked { order, call, answer, after });
         refusal

@@ -6,7 +6,7 @@ use crate::script::{Asked, CALLS};
 use std::collections::BTreeMap;
 
 /// The refusals that each call admits, in the order of CALLS: first to last, both included; 0 is acceptance.
-const ADMITTED: [&[(u32, u32)]; 10] = [
+const ADMITTED: [&[(u32, u32)]; 11] = [
     &[(0, 8)],
     &[(0, 11), (29, 29)],
     &[(0, 12), (29, 29)],
@@ -17,11 +17,12 @@ const ADMITTED: [&[(u32, u32)]; 10] = [
     &[(0, 11), (13, 19), (25, 25), (29, 29)],
     &[(0, 11), (21, 24), (29, 29)],
     &[(0, 11), (21, 24), (26, 26), (29, 29)],
+    &[(0, 20), (28, 29)],
 ];
 
 /// The parts of the refusals' sentences in 01 and 02: each must have been the reason of a refusal at least once in each
 /// order.
-const WAYS: [(u32, &[&str]); 27] = [
+const WAYS: [(u32, &[&str]); 28] = [
     (1, &["fewer than 64 bytes"]),
     (2, &["code", "order"]),
     (3, &["reclen"]),
@@ -88,6 +89,7 @@ const WAYS: [(u32, &[&str]); 27] = [
             "data bytes lacking",
         ],
     ),
+    (28, &["empty", "not whole words", "larger than the space"]),
     (29, &["in a place of an address", "past the places of addresses"]),
 ];
 
@@ -95,20 +97,26 @@ const WAYS: [(u32, &[&str]); 27] = [
 /// in each order.
 const PLACES: [&str; 3] = ["first", "between", "last"];
 
+/// The kinds of contents that an update may be given: each refusal that is tested before the content must have met each
+/// of them in each order.
+const CONTENTS: [&str; 4] = ["empty", "not whole words", "more than any section has", "other words"];
+
 /// How often something was seen in each order, by the order's number.
 type Seen = [usize; 2];
 
-/// How often each cell, each way, and each way at a place in a batch was seen.
+/// How often each cell, each way, each way at a place in a batch, and each refusal of an update with a kind of content was
+/// seen.
 #[derive(Default)]
 pub struct Table {
     cells: BTreeMap<(usize, u32), Seen>,
     ways: BTreeMap<(u32, &'static str), Seen>,
     places: BTreeMap<(u32, &'static str, usize), Seen>,
+    contents: BTreeMap<(u32, usize), Seen>,
 }
 
 /// 0 and the refusals, in the order of their numbers.
 fn refusals() -> impl Iterator<Item = u32> {
-    (0..=26).chain([29])
+    (0..=26).chain([28, 29])
 }
 
 /// Every way with the number of its refusal.
@@ -119,6 +127,11 @@ fn all_ways() -> impl Iterator<Item = (u32, &'static str)> {
 /// The ways in which an entry is refused within a batch.
 fn ways_within() -> impl Iterator<Item = (u32, &'static str)> {
     all_ways().filter(|(refusal, _)| (21..=24).contains(refusal))
+}
+
+/// The refusals of an update that are tested before its content.
+fn before_content() -> impl Iterator<Item = u32> {
+    (1..=20).chain([29])
 }
 
 /// Says whether 01 and 02 admit a refusal as a call's answer.
@@ -137,6 +150,9 @@ impl Table {
         if let Some(place) = asked.place() {
             self.places.entry((refusal, asked.answer.way, place)).or_default()[order] += 1;
         }
+        if let Some(content) = asked.content() {
+            self.contents.entry((refusal, content)).or_default()[order] += 1;
+        }
     }
 
     /// How often a cell was seen.
@@ -152,6 +168,11 @@ impl Table {
     /// How often a way ended a batch at a place.
     fn place(&self, refusal: u32, way: &'static str, place: usize) -> Seen {
         self.places.get(&(refusal, way, place)).copied().unwrap_or_default()
+    }
+
+    /// How often an update with a kind of content was refused so.
+    fn content(&self, refusal: u32, content: usize) -> Seen {
+        self.contents.get(&(refusal, content)).copied().unwrap_or_default()
     }
 
     /// Prints the table, a line for each refusal, with the little order before the big one; a point stands where
@@ -175,6 +196,11 @@ impl Table {
             let seen: Vec<String> = seen.map(|(place, [little, big])| format!("{place} {little}/{big}")).collect();
             println!("{refusal:>7} in a batch, {way}: {}", seen.join("; "));
         }
+        for refusal in before_content() {
+            let seen = (0..CONTENTS.len()).map(|content| (CONTENTS[content], self.content(refusal, content)));
+            let seen: Vec<String> = seen.map(|(content, [little, big])| format!("{content} {little}/{big}")).collect();
+            println!("{refusal:>7} of an update by its content: {}", seen.join("; "));
+        }
     }
 
     /// The cells that are empty and should not be, and those that are not admitted.
@@ -192,7 +218,8 @@ impl Table {
         wrong
     }
 
-    /// The ways, and the ways at a place in a batch, that were never seen in one of the orders.
+    /// The ways, the ways at a place in a batch, and the refusals of an update with a kind of content that were never seen
+    /// in one of the orders.
     pub fn missing_ways(&self) -> Vec<String> {
         let mut missing = vec![];
         for order in Order::BOTH {
@@ -203,6 +230,11 @@ impl Table {
             for (refusal, way) in ways_within() {
                 for place in (0..PLACES.len()).filter(|&place| never(self.place(refusal, way, place))) {
                     missing.push(format!("{refusal}: {way}, {} in a batch, {}", PLACES[place], order.name()));
+                }
+            }
+            for refusal in before_content() {
+                for content in (0..CONTENTS.len()).filter(|&content| never(self.content(refusal, content))) {
+                    missing.push(format!("{refusal} of an update, content {}, {}", CONTENTS[content], order.name()));
                 }
             }
         }

@@ -12,6 +12,7 @@ mod creating;
 mod opening;
 mod parts;
 mod tables;
+mod updating;
 mod validating;
 
 pub use answers::ClassicAppended;
@@ -68,6 +69,8 @@ pub use parts::classic_data;
 pub use parts::classic_index_words;
 pub use parts::classic_section;
 pub use pieces::Sections;
+pub use update::update_section;
+pub use updating::classic_update;
 pub use validating::classic_extension_of;
 pub use validating::classic_validate;
 pub use words::ByteOrder;

@@ -1,6 +1,6 @@
 -- Laws of the parts of an entry that are handed out: what an open entry shows of them, that each lies within the file, and what it is by the validation's case.
 -- Assumes nothing.
-use Prim.Native.Nat.{ℕ, _+_, _-_, _≤_}
+use Prim.Native.Nat.{ℕ, _+_, _-_, _%_, _^_, _≤_}
 use mathlib.Core.Path.{_≡_, refl, _∙_}
 use mathlib.Core.Bool.{Bool, true, false, cond}
 use mathlib.Core.List.{List}
@@ -29,10 +29,12 @@ use Rattle.entry.proofs.Opened.{Known, known}
 use Rattle.handing.specs.declared.place.PartPlace.{PartPlace}
 use Rattle.handing.specs.Parts.{noPart, pieceFrom, indexPart, sectionPart, dataPart, partIn, indexWordsOf, sectionWordsOf, dataWordsOf, IsPart}
 
--- a part lies within so many bytes
+-- a part lies within so many bytes, and is whole words, no more than a file has
 pub record Inside (bytes : ℕ) (p : PartPlace) : Type 0 where
   pub ordered : p .start ≤ p .end
   pub ends : p .end ≤ bytes
+  pub whole : (p .end - p .start) % 4 ≡ 0
+  pub small : p .end ≤ 2 ^ 30
 
 -- a part that a test chooses
 either : (bytes : ℕ) (b : Bool) (p q : PartPlace) → (b ≡ true → Inside bytes p) → (b ≡ false → Inside bytes q) → Inside bytes (cond b p q)
@@ -78,7 +80,7 @@ module _ (file : List ℕ) (e : EntryNumber) where
   unfolding indexPart
   index-words-inside =
       whole-inside file (λ addresses d. indexPart file d addresses e)
-      (λ addresses d a. entered file d addresses e _ a (λ k. omega (arith, slot-lent (length file) d addresses a e (k .number-low) (k .number-high), a .settled .lind-low)))
+      (λ addresses d a. entered file d addresses e _ a (λ k. omega (arith, slot-lent (length file) d addresses a e (k .number-low) (k .number-high), a .settled .lind-low, a .lent .high)))
 
   -- so does a section
   pub section-words-inside : (identifier : ℤ) → Inside (length file) (sectionWordsOf file e identifier)
@@ -89,7 +91,7 @@ module _ (file : List ℕ) (e : EntryNumber) where
       let x = enteredOf file d addresses e in
       let i = sectionNamed file (x .start) identifier 0 (x .nsec) in
       entered file d addresses e _ a (λ k. either (length file) (ltb i (x .nsec)) (pieceFrom (x .start) (sectionOf file (x .start) (x .nsec) i)) (noPart 20)
-      (λ q. let h = section-placed file (x .start) (x .nsec) (x .nword) i (x .nsec) (ltb-true i (x .nsec) q) (k .sections-within) in omega arith) (λ q. omega arith)))
+      (λ q. let h = section-placed file (x .start) (x .nsec) (x .nword) i (x .nsec) (ltb-true i (x .nsec) q) (k .sections-within) in omega (arith, a .lent .high)) (λ q. omega arith)))
 
   -- and the data
   pub data-words-inside : Inside (length file) (dataWordsOf file e)
@@ -99,7 +101,7 @@ module _ (file : List ℕ) (e : EntryNumber) where
       (λ addresses d a.
       let x = enteredOf file d addresses e in
       entered file d addresses e _ a (λ k. either (length file) (eqb (x .array .words) 0) (noPart 0) (pieceFrom (x .start) (x .array)) (λ q. omega arith)
-      (λ q. let h = data-placed (x .nsec) (x .nword) (x .array) (k .nword-small) (eqb-false (x .array .words) 0 q) (k .data-within) in omega arith)))
+      (λ q. let h = data-placed (x .nsec) (x .nword) (x .array) (k .nword-small) (eqb-false (x .array .words) 0 q) (k .data-within) in omega (arith, a .lent .high))))
 
 -- what was handed out is the part that a place names
 pub handed : {file r : RefT (List ℕ)} {p q : PartPlace} → q ≡ p → r .now ≡ take (q .end - q .start) (drop (q .start) (file .now)) → r .ptr ≡ (file .ptr .0, q .start + file .ptr .1)

@@ -25,9 +25,11 @@ use Rattle.storing.specs.Writing.{headFrom, areaWritten, entryWritten, indexWri
 use Rattle.writer.specs.Answers.{appendedFrom, fileFrom, appendIn, fileIn}
 use Rattle.batch.specs.Rules.{batchRefusal}
 use Rattle.batch.specs.Answers.{batchOf, fileAfterBatch}
+use Rattle.update.specs.Rules.{contentRefusal}
+use Rattle.update.specs.Answers.{updateAt, fileAt}
 use Rattle.promises.specs.FileA.{A}
-use Rattle.promises.specs.Examples.{AllMatch, examples, entry, withSection, withoutSection, Differ}
-use Rattle.promises.specs.RequestExamples.{requestExamples}
+use Rattle.promises.specs.Examples.{AllMatch, EachMatches, examples, entry, withSection, withoutSection, Differ}
+use Rattle.promises.specs.RequestExamples.{batchExamples, growthExamples, updateExamples, orderExamples, writesExamples, leftoverExamples, requestExamples}
 
 -- a row's proof and those of the rows behind it
 infixr 60 _&_
@@ -44,6 +46,7 @@ unfolding part splice zeros allZero littleNumber littleNumeral arranged number n
     firstWritten creationRefusal createdFile absent distinct positive appendRefusal
     full newArea afterNewArea entryStart nexAfter numbersAfter addressesAfter
     headFrom areaWritten entryWritten indexWritten appended appendedFrom fileFrom appendIn fileIn batchRefusal batchOf fileAfterBatch
+    contentRefusal updateAt fileAt
 seen = record {}
 
 -- every row of the table
@@ -76,25 +79,58 @@ worked-examples =
     refl & refl &
     record {}
 
--- every row of the table of the requests
-pub request-examples : AllMatch requestExamples
-unfolding requestExamples seen
-request-examples =
+-- ---- the requests
+
+batch-examples : AllMatch batchExamples
+unfolding batchExamples seen
+batch-examples =
     -- Q-1
     refl & refl & refl & refl & refl & refl & refl & refl & refl & refl & refl &
     refl & refl & refl & refl & refl & refl & refl & refl & refl & refl & refl &
+    record {}
+
+growth-examples : AllMatch growthExamples
+unfolding growthExamples seen
+growth-examples =
     -- Q-2
     refl & refl & refl & refl & refl & refl & refl & refl &
+    record {}
+
+update-examples : AllMatch updateExamples
+unfolding updateExamples seen
+update-examples =
+    -- Q-3
+    refl & refl & refl & refl & refl & refl & refl & refl & refl & refl & refl &
+    refl & refl & refl & refl & refl & refl & refl & refl & refl &
+    record {}
+
+order-examples : AllMatch orderExamples
+unfolding orderExamples seen
+order-examples =
     -- Q-4
-    refl & refl & refl & refl & refl & refl & refl & refl & refl & refl &
-    refl & refl & refl & refl & refl & refl & refl & refl & refl & refl &
-    refl & refl & refl & refl & refl & refl & refl & refl &
+    refl & refl & refl & refl & refl & refl & refl & refl & refl & refl & refl &
+    refl & refl & refl & refl & refl & refl & refl & refl & refl & refl & refl &
+    refl & refl & refl & refl & refl & refl &
+    record {}
+
+writes-examples : AllMatch writesExamples
+unfolding writesExamples seen
+writes-examples =
     -- Q-6
     refl & refl & refl & refl &
+    record {}
+
+leftover-examples : AllMatch leftoverExamples
+unfolding leftoverExamples seen
+leftover-examples =
     -- Q-7
     refl & refl & refl & refl & refl & refl & refl & refl & refl & refl & refl &
     refl & refl & refl & refl & refl & refl & refl & refl & refl & refl & refl &
     record {}
+
+-- every row of the tables of the requests
+pub request-examples : EachMatches requestExamples
+request-examples = batch-examples & growth-examples & update-examples & order-examples & writes-examples & leftover-examples & record {}
 
 -- the first entries of two files differ
 pub first-entries : Differ (openOf withSection (entry 1) .answer) (openOf withoutSection (entry 1) .answer)

@@ -8,7 +8,7 @@ use Rattle.writer.specs.Answers.{appendOf}
 use Rattle.batch.specs.Batch.{Batch, entriesIn}
 use Rattle.batch.specs.Rules.{batchRefusal}
 use Rattle.batch.specs.Answers.{batchOf, fileAfterBatch}
-use Rattle.promises.specs.Calls.{Call, append, Answer, appended, batched, run, answers}
+use Rattle.promises.specs.Calls.{Call, append, Answer, refusalOf, run, answers}
 
 -- an append for each entry
 abbrev pub singles : List Handed → List Call
@@ -22,15 +22,10 @@ acceptedIn file b = take (batchOf file b .accepted) (entriesIn b)
 abbrev pub othersIn : List ℕ → Batch → List Handed
 othersIn file b = drop (batchOf file b .accepted) (entriesIn b)
 
--- an answer is no refusal
-abbrev pub Accepts : Answer → Type 0
-Accepts (appended a) = a .refusal ≡ 0
-Accepts (batched a) = a .refusal ≡ 0
-
--- nor is any of these
+-- no answer of these is a refusal
 abbrev pub AllAccept : List Answer → Type 0
 AllAccept [] = Unit
-AllAccept (a ∷ given) = Accepts a × AllAccept given
+AllAccept (a ∷ given) = (refusalOf a ≡ 0) × AllAccept given
 
 -- how appends in turn end before these entries: with none left and no refusal, or with the refusal of the next
 abbrev pub EndsBefore : List Handed → List ℕ → ℕ → Type 0

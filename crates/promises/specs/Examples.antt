@@ -44,6 +44,11 @@ AllMatch [] = Unit
 AllMatch (P label found expected ∷ rows) = (found ≡ expected) × AllMatch rows
 AllMatch (Q label found expected ∷ rows) = (found ≡ expected) × AllMatch rows
 
+-- and so does every row of each of these tables
+abbrev pub EachMatches : List (List Row) → Type 0
+EachMatches [] = Unit
+EachMatches (rows ∷ tables) = AllMatch rows × EachMatches tables
+
 -- ---- numbers with their units
 
 -- entry e

@@ -1,4 +1,4 @@
--- Cases of the requests of 02, worked by hand, as one table. A row has the number of its request, what the definitions give, and what 02 says or the rules give by hand.
+-- Cases of the requests of 02, worked by hand, a table for each request. A row has the number of its request, what the definitions give, and what 02 says or the rules give by hand.
 use Prim.Native.Nat.{ℕ, _+_, _*_, _-_, _/_, _^_}
 use mathlib.Core.List.{List, [], _∷_, _++_, map}
 use lib.IntN.{ℤ, pos, negℤ}
@@ -19,13 +19,24 @@ use Rattle.writer.specs.Answers.{appendOf, fileAfter}
 use Rattle.batch.specs.declared.batching.Batched.{Batched}
 use Rattle.batch.specs.Batch.{Batch, laidIn, batchIn, entriesIn}
 use Rattle.batch.specs.Answers.{batchOf, fileAfterBatch}
-use Rattle.promises.specs.Contents.{numbersIn, openedIn}
+use Rattle.update.specs.Answers.{Update, updateIn, updateOf, fileAfterUpdate}
+use Rattle.promises.specs.Contents.{numbersIn, openedIn, found, sectionFound}
 use Rattle.promises.specs.Calls.{following}
 use Rattle.promises.specs.WrittenOnce.{writesOf, timesWritten}
-use Rattle.promises.specs.FileA.{settingsIn, settings, lent, append1, append2, append3, created, after1, after2, A, bigA}
-use Rattle.promises.specs.ByHand.{wordsAt, little, big, firstRecord, entryHead, slot}
+use Rattle.promises.specs.FileA.{settingsIn, settings, lent, append1, append2, append3, created, after1, after2, A, bigA, twoSections}
+use Rattle.promises.specs.ByHand.{wordsAt, word, twoWords, little, big, zeroWords, firstRecord, entryHead, slot}
 use Rattle.promises.specs.Examples.{Row, entry, aex, at, identifierFirst, opensAt, filled, numbersRefusal, imageWith}
 use Rattle.promises.specs.Examples.Row.{Q}
+
+-- ---- several
+
+-- a file with another byte at an offset
+abbrev pub withByte : List ℕ → ℕ → ℕ → List ℕ
+withByte file at byte = splice file at (byte ∷ [])
+
+-- a file in which the last byte of word w, counted from the file's start, is 1
+abbrev pub leftIn : ℕ → List ℕ → List ℕ
+leftIn w file = withByte file (4 * w - 1) 1
 
 -- ---- Q-1
 
@@ -51,84 +62,9 @@ batchA =
 abbrev pub ends : ℕ → ℕ → Batched
 ends accepted refusal = record { refusal = refusal; accepted = accepted }
 
--- ---- Q-2
-
--- with lex1 1 and gex 15 the areas of 1, 1, 2, 3 and 5 entries take a record of 46 words each
-abbrev pub fiveAreas : List RecordNumber
-fiveAreas = aex 2 ∷ aex 3 ∷ aex 4 ∷ aex 5 ∷ aex 6 ∷ []
-
--- the five hold 12 entries
-abbrev pub slow : ℕ → DescriptorNumbers
-slow xnext = filled (settings 46 4 1 15) xnext 7 5
-
--- with lex1 1 and gex 20 the areas of 1, 2, 4 to 16,384 entries take 1, 1, 1, 1, 2, 3, 6, 12, 23, 45, 90, 179, 357, 713 and 1,425 records
-abbrev pub fifteenAreas : List RecordNumber
-fifteenAreas =
-    aex 2 ∷ aex 3 ∷ aex 4 ∷ aex 5 ∷ aex 6 ∷ aex 8 ∷ aex 11 ∷ aex 17 ∷ aex 29 ∷ aex 52 ∷ aex 97 ∷ aex 187 ∷ aex 366 ∷ aex 723 ∷ aex 1436 ∷ []
-
--- the fifteen hold 32,767 entries
-abbrev pub doubling : ℕ → DescriptorNumbers
-doubling nex = filled (settings 46 4 1 20) 32768 2861 nex
-
--- with lex1 2 and gex 18 the areas of 2, 3, 6, 11, 20, 37, 68, 122, 220, 396, 714, 1,285, 2,313, 4,164, 7,496 and 13,493 entries
--- take 1, 1, 1, 1, 2, 4, 6, 11, 20, 35, 63, 112, 202, 363, 652 and 1,174 records
-abbrev pub sixteenAreas : List RecordNumber
-sixteenAreas =
-    aex 2 ∷ aex 3 ∷ aex 4 ∷ aex 5 ∷ aex 6 ∷ aex 8 ∷ aex 12 ∷ aex 18 ∷ aex 29 ∷ aex 49 ∷ aex 84 ∷ aex 147 ∷ aex 259 ∷ aex 461 ∷ aex 824 ∷ aex 1476 ∷ []
-
--- the sixteen hold 30,350 entries
-abbrev pub sixteen : DescriptorNumbers
-sixteen = filled (settings 46 4 2 18) 30351 2650 16
-
--- ---- Q-4
-
--- a first entry in a new file of an order, with version 0x01020304 and a section of identifier -2 and one word, of bytes 1 to 4
-abbrev pub fullWords : ℤ → List ℕ
-fullWords order =
-    fileAfter (createdFile (lent 6) (settingsIn order 20 4 2 20)) (handedIn (pos 0x01020304) (following 200 4) (negℤ (pos 2) ∷ []) (pos 1 ∷ []) (following 0 4) [])
-
--- a file with another byte at an offset
-abbrev pub withByte : List ℕ → ℕ → ℕ → List ℕ
-withByte file at byte = splice file at (byte ∷ [])
-
--- a file with another second byte in its code
-abbrev pub recoded : List ℕ → ℕ → List ℕ
-recoded file byte = withByte file 1 byte
-
--- ---- Q-6
-
--- the words that each write takes: the position of the first, and how many
-abbrev pub placesOf : List Write → List (ℕ × ℕ)
-placesOf [] = []
-placesOf (put at ys ∷ ws) = (at / 4, length ys / 4) ∷ placesOf ws
-
--- the head of an entry that starts at a position: code, version, nsec, nword, adata, ldata and xnum
-abbrev pub headPlaces : ℕ → List (ℕ × ℕ)
-headPlaces start = (start, 1) ∷ (start + 1, 1) ∷ (start + 2, 1) ∷ (start + 3, 2) ∷ (start + 5, 2) ∷ (start + 7, 2) ∷ (start + 9, 2) ∷ []
-
--- an index of 4 words: record, word, and the application's
-abbrev pub slotPlaces : ℕ → List (ℕ × ℕ)
-slotPlaces slot = (slot, 2) ∷ (slot + 2, 1) ∷ (slot + 3, 1) ∷ []
-
--- xnext, nextrec and nextword: words 7, 9 and 11, at positions 6, 8 and 10
-abbrev pub countPlaces : List (ℕ × ℕ)
-countPlaces = (6, 2) ∷ (8, 2) ∷ (10, 1) ∷ []
-
--- ---- Q-7
-
--- a file in which the last byte of word w, counted from the file's start, is 1
-abbrev pub leftIn : ℕ → List ℕ → List ℕ
-leftIn w file = withByte file (4 * w - 1) 1
-
--- a new file of one record
-abbrev pub oneRecord : ℕ → List ℕ
-oneRecord reclen = imageWith (offsetOf reclen) (settings reclen 4 2 20)
-
--- ---- the table
-
--- every row, in the order of the requests
-unfoldable pub requestExamples : List Row
-requestExamples =
+-- its rows: a batch
+unfoldable pub batchExamples : List Row
+batchExamples =
     -- no entries and nothing laid: 0 and 0 over 10 bytes, which stay; with a byte left, or a row, or a version: 26
     Q 1 (batchOf (following 0 10) (batchWith [] 0)) (ends 0 0) ∷
     Q 1 (fileAfterBatch (following 0 10) (batchWith [] 0)) (following 0 10) ∷
@@ -159,6 +95,40 @@ requestExamples =
     -- with 5 records the third gives 24, and the first record is that after the second
     Q 1 (batchOf (created 5) batchA) (ends 2 24) ∷
     Q 1 (wordsAt (fileAfterBatch (created 5) batchA) 1 1 20) (firstRecord little 3 4 16 1 2 0) ∷
+    []
+
+-- ---- Q-2
+
+-- with lex1 1 and gex 15 the areas of 1, 1, 2, 3 and 5 entries take a record of 46 words each
+abbrev pub fiveAreas : List RecordNumber
+fiveAreas = aex 2 ∷ aex 3 ∷ aex 4 ∷ aex 5 ∷ aex 6 ∷ []
+
+-- the five hold 12 entries
+abbrev pub slow : ℕ → DescriptorNumbers
+slow xnext = filled (settings 46 4 1 15) xnext 7 5
+
+-- with lex1 1 and gex 20 the areas of 1, 2, 4 to 16,384 entries take 1, 1, 1, 1, 2, 3, 6, 12, 23, 45, 90, 179, 357, 713 and 1,425 records
+abbrev pub fifteenAreas : List RecordNumber
+fifteenAreas =
+    aex 2 ∷ aex 3 ∷ aex 4 ∷ aex 5 ∷ aex 6 ∷ aex 8 ∷ aex 11 ∷ aex 17 ∷ aex 29 ∷ aex 52 ∷ aex 97 ∷ aex 187 ∷ aex 366 ∷ aex 723 ∷ aex 1436 ∷ []
+
+-- the fifteen hold 32,767 entries
+abbrev pub doubling : ℕ → DescriptorNumbers
+doubling nex = filled (settings 46 4 1 20) 32768 2861 nex
+
+-- with lex1 2 and gex 18 the areas of 2, 3, 6, 11, 20, 37, 68, 122, 220, 396, 714, 1,285, 2,313, 4,164, 7,496 and 13,493 entries
+-- take 1, 1, 1, 1, 2, 4, 6, 11, 20, 35, 63, 112, 202, 363, 652 and 1,174 records
+abbrev pub sixteenAreas : List RecordNumber
+sixteenAreas =
+    aex 2 ∷ aex 3 ∷ aex 4 ∷ aex 5 ∷ aex 6 ∷ aex 8 ∷ aex 12 ∷ aex 18 ∷ aex 29 ∷ aex 49 ∷ aex 84 ∷ aex 147 ∷ aex 259 ∷ aex 461 ∷ aex 824 ∷ aex 1476 ∷ []
+
+-- the sixteen hold 30,350 entries
+abbrev pub sixteen : DescriptorNumbers
+sixteen = filled (settings 46 4 2 18) 30351 2650 16
+
+-- its rows: the capacities of extensions
+unfoldable pub growthExamples : List Row
+growthExamples =
     -- lex1 1, gex 15: 1, 1, 2, 3, 5
     Q 2 (map (capacityOf (growthOf 1 15)) (1 ∷ 2 ∷ 3 ∷ 4 ∷ 5 ∷ [])) (1 ∷ 1 ∷ 2 ∷ 3 ∷ 5 ∷ []) ∷
     -- so five extensions fit 12 entries, and not 13
@@ -171,6 +141,65 @@ requestExamples =
     -- lex1 2, gex 18: extension 16 is 13,493 and is admitted
     Q 2 (capacityOf (growthOf 2 18) 16) 13493 ∷
     Q 2 (numbersRefusal (offsetOf (46 * 2649)) sixteen sixteenAreas) 0 ∷
+    []
+
+-- ---- Q-3
+
+-- new content of so many bytes, 231, 232, and on, for section 7 of entry 1
+abbrev pub rewriting : ℕ → Update
+rewriting bytes = updateIn (entry 1) (pos 7) (following 230 bytes)
+
+-- the file of two sections, at record 4, word 2, with identifier 7 for both: that of the second is word 13 of the entry, which starts at record 3
+abbrev pub sevenTwice : List ℕ
+sevenTwice = withByte twoSections (4 * (2 * 20 + 12)) 7
+
+-- its rows: an update of a section
+unfoldable pub updateExamples : List Row
+updateExamples =
+    -- section 7 of A, 3 words at record 3, word 17, is rewritten with 1 word and hands it out, with two words of zeros behind it
+    Q 3 (updateOf A (rewriting 4)) 0 ∷
+    Q 3 (sectionFound (fileAfterUpdate A (rewriting 4)) (entry 1) (pos 7)) (found (following 230 4 ++ zeroWords 2)) ∷
+    -- the data stands behind it as before, and so do the head and the tables before it, the length field 3 among them, and the first record
+    Q 3 (wordsAt (fileAfterUpdate A (rewriting 4)) 3 17 8) (following 230 4 ++ zeroWords 2 ++ following 100 20) ∷
+    Q 3 (wordsAt (fileAfterUpdate A (rewriting 4)) 3 1 16) (entryHead little 1 1 24 20 5 1 ++ word 7 ++ twoWords 3 ++ twoWords 17) ∷
+    Q 3 (wordsAt (fileAfterUpdate A (rewriting 4)) 1 1 20) (firstRecord little 4 6 12 2 2 5) ∷
+    -- with 3 words, which fit exactly; and then with 1 word again
+    Q 3 (updateOf A (rewriting 12)) 0 ∷
+    Q 3 (wordsAt (fileAfterUpdate A (rewriting 12)) 3 17 8) (following 230 12 ++ following 100 20) ∷
+    Q 3 (wordsAt (fileAfterUpdate (fileAfterUpdate A (rewriting 12)) (rewriting 4)) 3 17 8) (following 230 4 ++ zeroWords 2 ++ following 100 20) ∷
+    -- with 4 words: 28, and section and data are as they were; with none, and with 5 bytes: 28
+    Q 3 (updateOf A (rewriting 16)) 28 ∷
+    Q 3 (wordsAt (fileAfterUpdate A (rewriting 16)) 3 17 8) (following 0 12 ++ following 100 20) ∷
+    Q 3 (updateOf A (rewriting 0)) 28 ∷
+    Q 3 (updateOf A (rewriting 5)) 28 ∷
+    -- a missing identifier: 20, also with empty content; entry 2 has no section
+    Q 3 (updateOf A (updateIn (entry 1) (pos 8) (following 230 4))) 20 ∷
+    Q 3 (updateOf A (updateIn (entry 1) (pos 8) [])) 20 ∷
+    Q 3 (updateOf A (updateIn (entry 2) (pos 7) [])) 20 ∷
+    -- no entry 4: 12; leftovers in the first record: 29
+    Q 3 (updateOf A (updateIn (entry 4) (pos 7) [])) 12 ∷
+    Q 3 (updateOf (leftIn 20 A) (rewriting 0)) 29 ∷
+    -- of two sections with the identifier the first is rewritten, and its space is that of the first
+    Q 3 (updateOf sevenTwice (rewriting 16)) 28 ∷
+    Q 3 (wordsAt (fileAfterUpdate sevenTwice (rewriting 4)) 4 2 4) (following 230 4 ++ zeroWords 2 ++ following 12 4) ∷
+    -- in the big order the content is not turned
+    Q 3 (wordsAt (fileAfterUpdate bigA (rewriting 4)) 3 17 8) (following 230 4 ++ zeroWords 2 ++ following 100 20) ∷
+    []
+
+-- ---- Q-4
+
+-- a first entry in a new file of an order, with version 0x01020304 and a section of identifier -2 and one word, of bytes 1 to 4
+abbrev pub fullWords : ℤ → List ℕ
+fullWords order =
+    fileAfter (createdFile (lent 6) (settingsIn order 20 4 2 20)) (handedIn (pos 0x01020304) (following 200 4) (negℤ (pos 2) ∷ []) (pos 1 ∷ []) (following 0 4) [])
+
+-- a file with another second byte in its code
+abbrev pub recoded : List ℕ → ℕ → List ℕ
+recoded file byte = withByte file 1 byte
+
+-- its rows: the byte orders
+unfoldable pub orderExamples : List Row
+orderExamples =
     -- validating gives the order: 0 for A, 1 for A in the big order
     Q 4 (numbersIn A .order .0) 0 ∷
     Q 4 (numbersIn bigA .order .0) 1 ∷
@@ -207,6 +236,30 @@ requestExamples =
     Q 4 (creationRefusal 480 (settingsIn (negℤ (pos 1)) 20 4 2 20)) 2 ∷
     Q 4 (creationRefusal 63 (settingsIn (pos 2) 20 4 2 20)) 1 ∷
     Q 4 (creationRefusal 480 (settingsIn (pos 2) 15 4 2 20)) 2 ∷
+    []
+
+-- ---- Q-6
+
+-- the words that each write takes: the position of the first, and how many
+abbrev pub placesOf : List Write → List (ℕ × ℕ)
+placesOf [] = []
+placesOf (put at ys ∷ ws) = (at / 4, length ys / 4) ∷ placesOf ws
+
+-- the head of an entry that starts at a position: code, version, nsec, nword, adata, ldata and xnum
+abbrev pub headPlaces : ℕ → List (ℕ × ℕ)
+headPlaces start = (start, 1) ∷ (start + 1, 1) ∷ (start + 2, 1) ∷ (start + 3, 2) ∷ (start + 5, 2) ∷ (start + 7, 2) ∷ (start + 9, 2) ∷ []
+
+-- an index of 4 words: record, word, and the application's
+abbrev pub slotPlaces : ℕ → List (ℕ × ℕ)
+slotPlaces slot = (slot, 2) ∷ (slot + 2, 1) ∷ (slot + 3, 1) ∷ []
+
+-- xnext, nextrec and nextword: words 7, 9 and 11, at positions 6, 8 and 10
+abbrev pub countPlaces : List (ℕ × ℕ)
+countPlaces = (6, 2) ∷ (8, 2) ∷ (10, 1) ∷ []
+
+-- its rows: the writes of an append
+unfoldable pub writesExamples : List Row
+writesExamples =
     -- append (1): the entry at position 40, with an identifier, a length, an address, 3 words of a section and 5 of data; slot 1 of the new area at 20,
     -- nothing skipped, 16 words behind the slot; nex and the first address, words 13 and 15
     Q 6 (placesOf (writesOf (created 6) append1))
@@ -218,6 +271,17 @@ requestExamples =
     (headPlaces 100 ++ (111, 0) ∷ (111, 0) ∷ (111, 0) ∷ (111, 0) ∷ (111, 0) ∷ slotPlaces 80 ++ (75, 5) ∷ (84, 16) ∷ (12, 1) ∷ (16, 2) ∷ countPlaces) ∷
     -- so of the words about the new area, from the last of entry 2 to the first free one, each that is written is written once
     Q 6 (map (λ w. timesWritten w (writesOf (after2 6) append3)) (74 ∷ 75 ∷ 79 ∷ 80 ∷ 83 ∷ 84 ∷ 99 ∷ 100 ∷ 110 ∷ 111 ∷ [])) (0 ∷ 1 ∷ 1 ∷ 1 ∷ 1 ∷ 1 ∷ 1 ∷ 1 ∷ 1 ∷ 0 ∷ []) ∷
+    []
+
+-- ---- Q-7
+
+-- a new file of one record
+abbrev pub oneRecord : ℕ → List ℕ
+oneRecord reclen = imageWith (offsetOf reclen) (settings reclen 4 2 20)
+
+-- its rows: leftovers in the first record
+unfoldable pub leftoverExamples : List Row
+leftoverExamples =
     -- A has its addresses in words 15 to 18: words 19 and 20 are zero, and word 21 is the first of record 2
     Q 7 (fileRefusal A) 0 ∷
     Q 7 (fileRefusal (leftIn 19 A)) 29 ∷
@@ -247,3 +311,9 @@ requestExamples =
     Q 7 (wordsAt (createdFile (leftIn 20 A) (settings 20 4 2 20)) 1 1 20) (firstRecord little 1 2 1 0 0 0) ∷
     Q 7 (fileRefusal (createdFile (leftIn 20 A) (settings 20 4 2 20))) 0 ∷
     []
+
+-- ---- the tables
+
+-- those of all requests, in their order
+abbrev pub requestExamples : List (List Row)
+requestExamples = batchExamples ∷ growthExamples ∷ updateExamples ∷ orderExamples ∷ writesExamples ∷ leftoverExamples ∷ []

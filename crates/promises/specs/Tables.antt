@@ -20,6 +20,8 @@ use Rattle.writer.specs.Rules.{appendRules}
 use Rattle.writer.specs.Answers.{fileAfter}
 use Rattle.batch.specs.Batch.{Batch, entriesIn}
 use Rattle.batch.specs.Rules.{batchRules}
+use Rattle.update.specs.Rules.{contentRules}
+use Rattle.update.specs.Answers.{Update, spaceOf, placeNamed}
 
 -- ---- the tables
 
@@ -62,6 +64,10 @@ openTests file e = validateTests file ++ entryRows file e
 -- a section adds 20 after them
 abbrev pub sectionTests : List ℕ → EntryNumber → ℤ → List Rule
 sectionTests file e identifier = openTests file e ++ sectionRows file e identifier
+
+-- an update of that section adds 28
+abbrev pub updateTests : List ℕ → Update → List Rule
+updateTests file u = sectionTests file (u .number) (u .identifier) ++ contentRules (length (u .content)) (spaceOf (placeNamed file u))
 
 -- append adds 21 to 24
 abbrev pub appendTests : List ℕ → Handed → List Rule

@@ -2,21 +2,31 @@
 //
 // `append_twice` makes two appends of the caller's choice, and its contract is what the theorem of
 // demand 3 concludes of the file before, the file after, what was handed in and what was answered. So
-// that the theorem speaks of what the code does is itself proved. `create_and_append` starts from a
-// file that it creates: of that start the contract assumes nothing.
+// that the theorem speaks of what the code does is itself proved. `append_and_update` does so with an
+// append and an update of a section. `create_and_append` starts from a file that it creates: of that
+// start the contract assumes nothing.
 use descriptor::Settings;
 use geometry::EntryNumber;
+use update::update_section;
 use writer::Appended;
 use writer::append;
 use writer::create;
-ghost use Rattle.witness.specs.Begun.{CreatesAndAppends};
 ghost use Rattle.storing.specs.Handed.{handed};
+ghost use Rattle.update.specs.Answers.{updateIn};
+ghost use Rattle.witness.specs.Begun.{CreatesAndAppends};
+ghost use Rattle.witness.specs.Revised.{AppendsAndUpdates};
 ghost use Rattle.witness.specs.Twice.{AllIntegers, AppendsTwice};
 
 // What two appends answer.
 pub struct Twice {
     pub first: Appended,
     pub second: Appended,
+}
+
+// What an append and the update behind it answer: the append's answer, and the update's refusal.
+pub struct Revised {
+    pub appended: Appended,
+    pub updated: u32,
 }
 
 // What a creation and the append behind it answer: the creation's refusal, and the append's answer.
@@ -67,6 +77,27 @@ pub fn append_twice(
         next_values,
     );
     Twice { first, second }
+}
+
+// Appends an entry, and then rewrites a section: of the new entry or of any other.
+pub fn append_and_update(
+    file: &mut [u8],
+    version: i32,
+    index: &[u8],
+    ids: &[i32],
+    lengths: &[i64],
+    sections: &[u8],
+    values: &[u8],
+    number: EntryNumber,
+    identifier: i32,
+    content: &[u8],
+) -> Revised
+    ensures { λ r. ⌜ AppendsAndUpdates (now (file .entry)) (now (file .exit)) (handed version index ids lengths sections values) (updateIn number identifier (now (content .entry))) r ⌝ }
+{
+    read_identifiers(ids);
+    let appended = append(file, version, index, ids, lengths, sections, values);
+    let updated = update_section(file, number, identifier, content);
+    Revised { appended, updated }
 }
 
 // Creates a file, and appends an entry to it. After a refused creation nothing is appended: the answer

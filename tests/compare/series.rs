@@ -1,0 +1,80 @@
+//! The series for demand 3: appends, batches and updates in any order, from a created file or from one in order.
+
+use crate::cases::{append, number, read_all};
+use crate::files::{self, make};
+use crate::random::Random;
+use crate::reference;
+use crate::script::{Call, Script};
+use crate::sweeps::any_batch;
+use crate::updates::any_update;
+
+/// A series of appends good and bad.
+pub fn of_appends(random: &mut Random, script: &mut Script) {
+    let lind = begin(random, script);
+    for _ in 0..random.from(4, 40) {
+        append(random, script, lind, 4);
+    }
+    look(script);
+}
+
+/// A series of appends and batches good and bad.
+pub fn with_batches(random: &mut Random, script: &mut Script) {
+    let lind = begin(random, script);
+    for _ in 0..random.from(3, 12) {
+        if random.once_in(2) {
+            append(random, script, lind, 4);
+        } else {
+            let batch = any_batch(random, lind);
+            script.call(Call::AppendBatch(batch));
+        }
+    }
+    look(script);
+}
+
+/// A series of updates, appends and batches good and bad, which is looked at in between too.
+pub fn with_updates(random: &mut Random, script: &mut Script) {
+    let lind = begin(random, script);
+    for _ in 0..random.from(6, 40) {
+        change(random, script, lind);
+        if random.once_in(12) {
+            look(script);
+        }
+    }
+    look(script);
+}
+
+/// An append, a batch, or mostly an update, good or bad.
+pub fn change(random: &mut Random, script: &mut Script, lind: i32) {
+    match random.from(1, 8) {
+        1 | 2 => append(random, script, lind, 4),
+        3 => script.call(Call::AppendBatch(any_batch(random, lind))),
+        _ => {
+            let last = reference::validate(&script.file).map_or(0, |d| d.entries() as usize);
+            let entry = number(random, last);
+            script.call(Call::Update(any_update(random, &script.file, entry)))
+        }
+    };
+}
+
+/// Begins a series with a created file or with one in order, of which all entries are read; gives the file's lind.
+fn begin(random: &mut Random, script: &mut Script) -> i32 {
+    let mut shape = files::shape(random, script.order);
+    shape.settings.lex1 += random.pick(&[0, 1, 6]);
+    shape.spare_records = 1 + random.from(100, 9000) / shape.settings.reclen as usize;
+    if random.once_in(2) {
+        let made = make(random, &shape);
+        script.lend(&made.bytes, made.bytes.len());
+    } else {
+        let bytes = random.bytes(4 * (1 + shape.spare_records) * shape.settings.reclen as usize);
+        script.lend(&bytes, bytes.len());
+        script.call(Call::Create(shape.settings));
+    }
+    read_all(script);
+    shape.settings.lind
+}
+
+/// Reads all entries, and then checks the order.
+fn look(script: &mut Script) {
+    read_all(script);
+    script.call(Call::Check);
+}
