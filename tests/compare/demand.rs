@@ -91,7 +91,8 @@ fn updated(contents: &mut [Content], u: &Update, fields: &[u64]) -> Result<(), S
     if fields[0] != 0 {
         return Ok(());
     }
-    let entry = contents.get_mut((u.entry as usize).wrapping_sub(1)).ok_or("accepted for an entry that is not there")?;
+    let place = (u.entry as usize).wrapping_sub(1);
+    let entry = contents.get_mut(place).ok_or("accepted for an entry that is not there")?;
     let held = entry.sections.iter_mut().filter(|(id, _)| *id == u.identifier);
     let held: Vec<&mut Vec<u8>> = held.map(|(_, bytes)| bytes).collect();
     if held.is_empty() {

@@ -6,6 +6,8 @@
 #[path = "writer.rs"]
 mod writer;
 
+// Not every program that is built with this file uses all of these.
+#[allow(unused_imports)]
 pub use writer::{append, append_batch, create, entries_of, update, Addition, Batch, Update};
 
 /// The code of an entry, in files of both orders.

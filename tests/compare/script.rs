@@ -5,7 +5,16 @@ use crate::reference::{self, Addition, Batch, Order, Refusal, Settings, Update};
 
 /// The calls of the interface, in the order of their numbers in the driver's protocol.
 pub const CALLS: [&str; 11] = [
-    "create", "validate", "extension_of", "open", "index_words", "section", "data", "check", "append", "append_batch",
+    "create",
+    "validate",
+    "extension_of",
+    "open",
+    "index_words",
+    "section",
+    "data",
+    "check",
+    "append",
+    "append_batch",
     "update",
 ];
 

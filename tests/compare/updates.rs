@@ -1,7 +1,7 @@
 //! The cases of updates: every section with contents of every size, what is not there, identifiers that stand twice,
 //! files that are refused, words that are shared, sections at the file's end, and a mix with appends and batches.
 
-use crate::cases::{append, disorder, left_behind, number, read_all, read_entry, small_shape};
+use crate::cases::{append, disorder, left_behind, read_all, read_entry, small_shape};
 use crate::damage::{edges, fields};
 use crate::files::{self, area_words, make, together, Made, Shape};
 use crate::random::Random;

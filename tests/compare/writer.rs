@@ -224,6 +224,7 @@ pub fn append_batch(file: &mut [u8], b: &Batch) -> Result<u64, (u64, Refusal)> {
         accepted += 1;
     }
     Ok(accepted)
+}
 
 impl Update {
     /// The count of bytes of the new content.

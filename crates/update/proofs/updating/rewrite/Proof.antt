@@ -13,10 +13,15 @@ use Rattle.update.proofs.updating.rewrite.Tie as tie
 returns : tie.Need-returns
 returns c =
     let s = c .before .before .before .before .before .before .before .before .before .before in
-    let n = length (s .args .content .now) in
-    c .before .before .zero .ensures
-    ∙ ap (λ (f : List ℕ). splice f (s .args .start + n) (zeros (s .args .space - n))) (c .before .before .before .before .before .before .put .ensures)
-    ∙ splice-adjacent (s .args .file .now) (s .args .start) (s .args .content .now) (s .args .start + n) (zeros (s .args .space - n)) refl
+    let file = s .args .file .now in
+    let content = s .args .content .now in
+    let behind = s .args .start + length content in
+    let rest = zeros (s .args .space - length content) in
+    let last = c .before .before .zero in
+    let first = c .before .before .before .before .before .before .put in
+    let zeroed : last .last .0 ≡ splice (first .last .0) behind rest = last .ensures in
+    let copied : first .last .0 ≡ splice file (s .args .start) content = first .ensures in
+    zeroed ∙ ap (λ (f : List ℕ). splice f behind rest) copied ∙ splice-adjacent file (s .args .start) content behind rest refl
 
 pub rewrite-spec : {M : Type 1} → statement M
 rewrite-spec = tie.close (tie.spec (λ c κs. search needs) (λ c. search needs) (λ c. search needs) (λ c κs. search needs) (λ c. search needs) returns)
