@@ -62,7 +62,7 @@ fn store(script: &mut Script, entries: &[Addition]) {
 }
 
 /// Validates and checks the file, and reads its last entry, one anywhere, and one that is not there.
-fn look(random: &mut Random, script: &mut Script) {
+pub fn look(random: &mut Random, script: &mut Script) {
     script.call(Call::Validate);
     script.call(Call::Check);
     let last = reference::validate(&script.file).map_or(0, |d| d.entries() as usize);

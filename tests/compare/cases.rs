@@ -44,7 +44,7 @@ const PLAN: [(usize, Kind); 32] = [
     (20, updates::twice),
     (4, updates::every_edge),
     (6, updates::other_lengths),
-    (30, updates::shared),
+    (60, updates::shared),
     (12, updates::neighbours),
     (150, updates::any_updates),
     (SERIES, series::of_appends),

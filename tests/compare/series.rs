@@ -36,7 +36,7 @@ pub fn with_updates(random: &mut Random, script: &mut Script) {
     let lind = begin(random, script);
     for _ in 0..random.from(6, 40) {
         change(random, script, lind);
-        if random.once_in(12) {
+        if random.once_in(16) {
             look(script);
         }
     }
@@ -49,11 +49,21 @@ pub fn change(random: &mut Random, script: &mut Script, lind: i32) {
         1 | 2 => append(random, script, lind, 4),
         3 => script.call(Call::AppendBatch(any_batch(random, lind))),
         _ => {
-            let last = reference::validate(&script.file).map_or(0, |d| d.entries() as usize);
-            let entry = number(random, last);
+            let entry = entry_to_update(random, &script.file);
             script.call(Call::Update(any_update(random, &script.file, entry)))
         }
     };
+}
+
+/// The number of an entry to update: mostly of one that has sections.
+fn entry_to_update(random: &mut Random, file: &[u8]) -> u64 {
+    let last = reference::validate(file).map_or(0, |d| d.entries() as u64);
+    let has_sections = |entry: &u64| reference::open(file, *entry).is_ok_and(|e| e.nsec > 0);
+    let entries: Vec<u64> = (1..=last).filter(has_sections).collect();
+    if entries.is_empty() || random.once_in(8) {
+        return number(random, last as usize);
+    }
+    random.pick(&entries)
 }
 
 /// Begins a series with a created file or with one in order, of which all entries are read; gives the file's lind.

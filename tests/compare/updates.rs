@@ -1,6 +1,7 @@
 //! The cases of updates: every section with contents of every size, what is not there, identifiers that stand twice,
 //! files that are refused, words that are shared, sections at the file's end, and a mix with appends and batches.
 
+use crate::batches::look;
 use crate::cases::{append, disorder, left_behind, read_all, read_entry, small_shape};
 use crate::damage::{edges, fields};
 use crate::files::{self, area_words, make, together, Made, Shape};
@@ -326,9 +327,8 @@ pub fn any_updates(random: &mut Random, script: &mut Script) {
             script.again();
         }
         change(random, script, shape.settings.lind);
-        if random.once_in(4) {
-            script.call(Call::Check);
+        if random.once_in(5) {
+            look(random, script);
         }
     }
-    read_all(script);
 }
