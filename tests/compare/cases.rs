@@ -42,7 +42,7 @@ const PLAN: [(usize, Kind); 32] = [
     (40, updates::every_section),
     (8, updates::not_there),
     (20, updates::twice),
-    (4, updates::every_edge),
+    (6, updates::every_edge),
     (6, updates::other_lengths),
     (60, updates::shared),
     (12, updates::neighbours),

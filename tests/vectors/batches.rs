@@ -2,7 +2,7 @@
 //! every place of a batch, and files made by one batch.
 
 use crate::files::{a_after, additions, bare, created, in_order, named, settings, with4, words};
-use crate::lines::{batch, check, data, describe, index, open, section, show};
+use crate::lines::{batch, check, data, describe, index, open, records, section};
 use crate::reference::{Addition, Batch, Order};
 
 /// What the columns of the counts count.
@@ -158,9 +158,7 @@ fn file_a(order: Order) {
     let file = over_created(order, "A", &all);
     let name = named(order, "A by a batch");
     describe(&name, &file);
-    for (i, bytes) in file.chunks(80).enumerate() {
-        show(&format!("{name} record {}", i + 1), bytes);
-    }
+    records(&name, &file);
     for entry in 1..=3 {
         open(&format!("{name} {entry}"), &file, entry);
     }

@@ -4,7 +4,8 @@ use crate::files::{
     a, a_after, after, bare, created, in_order, named, settings as chosen, with4, with8, with_byte, words, ENTRY, INDEX,
 };
 use crate::lines::{
-    check, create, data, describe, every_call as every, extension, index, open, section, show, tables, validate,
+    check, create, data, describe, every_call as every, extension, index, open, records, section, show, tables,
+    validate,
 };
 use crate::orders::{codes, settings as order_settings};
 use crate::reference::{Addition, Order, Settings, ENTRY_CODE};
@@ -27,9 +28,7 @@ fn example_a(order: Order) {
     describe(&format!("{a} after (2)"), &a_after(order, 2));
     let file = a_after(order, 3);
     describe(&a, &file);
-    for (i, bytes) in file.chunks(80).enumerate() {
-        show(&format!("{a} record {}", i + 1), bytes);
-    }
+    records(&a, &file);
     extension(&format!("{a} 1"), &file, 1);
     extension(&format!("{a} 2"), &file, 2);
     for entry in 1..=3 {
@@ -417,28 +416,39 @@ pub fn ordering() {
     check("A 1 nword 25, 3 code 31", &nword(coded(3), 1, 25));
 }
 
-/// Every call on file A in an order and on each way to damage it.
-pub fn every_call(order: Order) {
+/// A file with its name, how many of its bytes are lent, and the number that is asked for.
+pub type Asked = (&'static str, Vec<u8>, usize, u64);
+
+/// File A in an order with each way to damage it, and with numbers that it does not have.
+pub fn damaged(order: Order) -> Vec<Asked> {
     let a = || a_after(order, 3);
-    let asked = |name: &str, file, bytes, number| every(&named(order, name), file, bytes, number);
-    let all = |name: &str, file, bytes| asked(name, file, bytes, 1);
-    all("A", a(), 480);
-    all("63 bytes lent", a(), 63);
-    all("code 31", with_byte(a(), 0, 0x31), 480);
-    all("reclen 15", with4(a(), 2, 15), 480);
-    all("479 bytes lent", a(), 479);
+    let mut all: Vec<Asked> = vec![
+        ("63 bytes lent", a(), 63, 1),
+        ("code 31", with_byte(a(), 0, 0x31), 480, 1),
+        ("reclen 15", with4(a(), 2, 15), 480, 1),
+        ("479 bytes lent", a(), 479, 1),
+    ];
     for (name, word, value) in [("kind 0", 3, 0), ("lind 2", 5, 2), ("flags 2", 6, 2), ("lex1 0", 12, 0)] {
-        all(name, with4(a(), word, value), 480);
+        all.push((name, with4(a(), word, value), 480, 1));
     }
     for (name, word, value) in [("xnext 0", 7, 0), ("nextrec 1", 9, 1), ("aex 1 5", 15, 1)] {
-        all(name, with8(a(), word, value), 480);
+        all.push((name, with8(a(), word, value), 480, 1));
     }
-    asked("number 0", a(), 480, 0);
-    asked("number 4", a(), 480, 4);
-    all("record 1", with8(a(), INDEX[0] + 1, 1), 480);
-    all("entry code 31", with_byte(a(), 4 * ENTRY[0], 0x31), 480);
-    all("nsec 65", with4(a(), ENTRY[0] + 3, 65), 480);
+    all.push(("number 0", a(), 480, 0));
+    all.push(("number 4", a(), 480, 4));
+    all.push(("record 1", with8(a(), INDEX[0] + 1, 1), 480, 1));
+    all.push(("entry code 31", with_byte(a(), 4 * ENTRY[0], 0x31), 480, 1));
+    all.push(("nsec 65", with4(a(), ENTRY[0] + 3, 65), 480, 1));
     for (name, word, value) in [("xnum 2", 10, 2), ("ldata -1", 8, -1), ("length 0", 13, 0), ("address 18", 15, 18)] {
-        all(name, with_field(a(), word, value), 480);
+        all.push((name, with_field(a(), word, value), 480, 1));
+    }
+    all
+}
+
+/// Every call on file A in an order and on each way to damage it.
+pub fn every_call(order: Order) {
+    every(&named(order, "A"), a_after(order, 3), 480, 1);
+    for (name, file, bytes, number) in damaged(order) {
+        every(&named(order, name), file, bytes, number);
     }
 }

@@ -1,6 +1,6 @@
 //! The line of a case: the call, its name, and the answer of the independent implementation.
 
-use crate::reference::{self, Addition, Batch, Part, Refusal, Settings};
+use crate::reference::{self, Addition, Batch, Part, Refusal, Settings, Update};
 
 /// A refusal in words.
 fn refused(refusal: Refusal) -> String {
@@ -107,6 +107,13 @@ pub fn show(name: &str, bytes: &[u8]) {
     println!("words {name}:{}", words(bytes));
 }
 
+/// The words of file A, a record a line.
+pub fn records(name: &str, file: &[u8]) {
+    for (i, bytes) in file.chunks(80).enumerate() {
+        show(&format!("{name} record {}", i + 1), bytes);
+    }
+}
+
 /// The order check.
 pub fn check(name: &str, file: &[u8]) {
     let told = match reference::check(file) {
@@ -150,6 +157,16 @@ pub fn batch(name: &str, file: &mut [u8], bytes: usize, batch: &Batch) {
     };
     let bytes = if accepted == 0 { format!(" {}", unchanged(&before, file)) } else { String::new() };
     println!("batch {name}: accepted {accepted}{refusal}{bytes}");
+}
+
+/// Updates a section in the first so many bytes of a file, which stays as the update leaves it.
+pub fn update(name: &str, file: &mut [u8], bytes: usize, update: &Update) {
+    let before = file.to_vec();
+    let told = match reference::update(&mut file[..bytes], update) {
+        Ok(()) => "accepted".to_string(),
+        Err(refusal) => format!("{} {}", refused(refusal), unchanged(&before, file)),
+    };
+    println!("update {name}: {told}");
 }
 
 /// Every call on the first so many bytes of a file, 0 for one that is accepted.

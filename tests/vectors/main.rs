@@ -10,6 +10,7 @@ mod orders;
 #[path = "../compare/reference.rs"]
 #[allow(dead_code)]
 mod reference;
+mod updates;
 mod writing;
 
 use reference::Order;
@@ -36,4 +37,5 @@ fn main() {
     orders::other_code();
     leftovers::leftovers();
     batches::batches();
+    updates::updates();
 }

@@ -181,7 +181,7 @@ pub fn stored_bytes() {
 }
 
 /// File N in an order: an entry whose version, identifiers, index word, sections and data have four bytes that differ.
-fn n(order: Order) -> Vec<u8> {
+pub fn n(order: Order) -> Vec<u8> {
     let addition = Addition {
         version: 0x0102_0304,
         index: (0x11..=0x14).collect(),

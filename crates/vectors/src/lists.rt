@@ -1,4 +1,4 @@
-// The lists behind the numbers of an append or a batch, each behind its label, and the bytes that they say.
+// The lists behind the numbers of an append, a batch or an update, each behind its label, and the bytes that they say.
 use super::files::put_all;
 use super::printing::wrong;
 use super::reading::Read;
@@ -89,8 +89,8 @@ pub(crate) fn labelled_integers(bytes: &[u8], at: usize, label: usize, numbers: 
     read
 }
 
-// Reads the words listed, those of the index, the sections and the data, as bytes, the least significant first.
-fn listed_words(lists: &[u8], at: usize, bytes: &mut [u8]) {
+// Reads the words listed, those of an append, a batch or new content, as bytes, the least significant first.
+pub(crate) fn listed_words(lists: &[u8], at: usize, bytes: &mut [u8]) {
     let mut values = [0i64; 66];
     let read = labelled(lists, at, WORDS, &mut values);
     let count = read.count;

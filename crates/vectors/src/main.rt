@@ -39,6 +39,7 @@ use reading::list;
 use reading::position;
 use writing::append_in;
 use writing::create_in;
+use writing::update_in;
 ghost use Prim.Native.Nat.{_≤_};
 ghost use mathlib.Core.Path.{_≡_};
 ghost use lib.ListN.{length};
@@ -80,6 +81,7 @@ fn run(command: usize, values: &[i64], rest: &[u8], name: &[u8], room: &mut [u8]
         8 => append_in(values, rest, name, room, lent),
         9 => every_in(a, name, room, lent),
         20 => batch_in(values, rest, name, room, lent),
+        21 => update_in(values, rest, name, room, lent),
         _ => ask(command, a, b, name, &room[0..lent]),
     }
 }
@@ -90,6 +92,7 @@ fn takes(command: usize, count: usize, more: bool) -> bool {
         2 | 3 => more && count == 0,
         8 => count == 4,
         20 => count == 5,
+        21 => count == 3,
         4 | 5 | 6 => !more,
         7 => !more && count == 8,
         0 | 16 | 19 => !more && count == 2,
@@ -148,7 +151,7 @@ fn run_line(line: &[u8], room: &mut [u8], lent: usize) -> usize
     let head = &line[0..colon];
     let end = find(head, 0, b' ');
     let command = position(
-        b"file lend keep take put1 put4 put8 create append every validate describe extension open tables index section data check words batch",
+        b"file lend keep take put1 put4 put8 create append every validate describe extension open tables index section data check words batch update",
         &head[0..end],
     );
     let name = bytes_of(line, colon + 2, line.len());

@@ -52,7 +52,9 @@ pub(crate) const EVERY_END: usize = 44;
 
 pub(crate) const BATCH: usize = 46;
 
-pub(crate) const END: usize = 48;
+pub(crate) const UPDATE: usize = 48;
+
+pub(crate) const END: usize = 50;
 
 // Writes one byte.
 fn single(byte: u8) {
@@ -141,7 +143,8 @@ pub(crate) fn print(form: usize, refusal: u64, name: &[u8], a: u64, b: u64, c: u
         unchanged| changed|\
         every call, %: validate A extension B open C index D|| \
         section A data B check C D|| append A||\
-        batch %: accepted A|batch %: accepted A refused R|\n||";
+        batch %: accepted A|batch %: accepted A refused R|\
+        update %: accepted\n|update %: refused R|\n||";
     spell(forms, chosen(form, refusal), refusal, name, a, b, c, d);
 }
 

@@ -1,20 +1,25 @@
-// The calls that change a file: create and append.
+// The calls that change a file: create, append and update.
 use super::files::changed;
 use super::files::save;
+use super::lists::at_most;
 use super::lists::ends;
 use super::lists::int4_at;
+use super::lists::listed_words;
 use super::lists::read_lists;
 use super::printing::APPEND;
 use super::printing::CHANGED;
 use super::printing::CREATE;
 use super::printing::CREATE_END;
+use super::printing::UPDATE;
 use super::printing::end;
 use super::printing::print;
 use super::reading::bits_at;
 use classic::Appended;
+use classic::EntryNumber;
 use classic::Settings;
 use classic::append;
 use classic::create;
+use classic::update_section;
 use classic::validate;
 ghost use Prim.Native.Nat.{_≤_};
 ghost use mathlib.Core.Path.{_≡_};
@@ -103,20 +108,12 @@ pub(crate) fn append_line(numbers: &[i64], lists: &[u8], file: &mut [u8]) -> App
     append_parts(numbers, &bytes, &ids[0..named], &lengths[0..measured], file)
 }
 
-// Writes the line of an append.
-fn appended(name: &[u8], answer: Appended, room: &[u8], lent: usize)
+// Writes the line of an append, with the new entry's number, or of an update: of a refused one whether bytes changed.
+fn answered(form: usize, refusal: u32, name: &[u8], number: u64, room: &[u8], lent: usize)
     requires { ⌜ lent ≤ 789176 ⌝ }
 {
-    print(
-        APPEND,
-        answer.refusal as u64,
-        name,
-        answer.number.0,
-        0,
-        0,
-        0,
-    );
-    if answer.refusal != 0 {
+    print(form, refusal as u64, name, number, 0, 0, 0);
+    if refusal != 0 {
         compared(name, room, 0, lent);
         end(name);
     }
@@ -129,6 +126,30 @@ pub(crate) fn append_in(numbers: &[i64], lists: &[u8], name: &[u8], room: &mut [
     save(room, lent);
     let answer = append_line(numbers, lists, &mut room[0..lent]);
     if name.len() != 0 || answer.refusal != 0 {
-        appended(name, answer, room, lent);
+        answered(APPEND, answer.refusal, name, answer.number.0, room, lent);
+    }
+}
+
+// Updates the section that a line names: entry, identifier, bytes of the new content, then its words behind their label.
+fn update_line(numbers: &[i64], lists: &[u8], file: &mut [u8]) -> u32 {
+    let mut bytes = [0u8; 272];
+    listed_words(lists, 0, &mut bytes);
+    let count = at_most(272, bits_at(numbers, 2));
+    update_section(
+        file,
+        EntryNumber(bits_at(numbers, 0)),
+        int4_at(numbers, 1),
+        &bytes[0..count],
+    )
+}
+
+// Updates a section in the lent bytes: the line of a case that has a name, or of a refusal.
+pub(crate) fn update_in(numbers: &[i64], lists: &[u8], name: &[u8], room: &mut [u8], lent: usize)
+    requires { ⌜ (length (now room) ≡ 1623632) × (lent ≤ 789176) ⌝ }
+{
+    save(room, lent);
+    let refusal = update_line(numbers, lists, &mut room[0..lent]);
+    if name.len() != 0 || refusal != 0 {
+        answered(UPDATE, refusal, name, 0, room, lent);
     }
 }
