@@ -14,8 +14,8 @@ use Rattle.promises.specs.Demand.{Start, Promised}
 use Rattle.promises.proofs.OpenEntries.{OpenEntry, open-shown}
 use Rattle.promises.proofs.OrderSound.{order-sound}
 use Rattle.promises.proofs.OrderAgain.{run-ordered}
-use Rattle.promises.proofs.Adding.{entries-shown}
-use Rattle.promises.proofs.Series.{run-sound, run-contents, run-stays, run-found, run-numbered}
+use Rattle.promises.proofs.Making.{entries-shown}
+use Rattle.promises.proofs.Series.{run-contents, run-numbered, run-sound, run-reads, run-stands, run-stays, run-found}
 use Rattle.promises.proofs.CreatedSound.{created-check}
 
 -- every entry of a sound file opens
@@ -27,7 +27,7 @@ sound-opens file s e l h =
     rw (open-shown o)
 
 -- a file that demand 3 starts from passes the order check
-start-ordered : (file : List ℕ) → Start file → checkOf file ≡ allPass
+pub start-ordered : (file : List ℕ) → Start file → checkOf file ≡ allPass
 start-ordered file (inl c) = ap checkOf (c .made) ∙ created-check (c .image) (c .settings) (c .given)
 start-ordered file (inr c) = c
 
@@ -39,6 +39,8 @@ demand-3 calls g file start =
     let after = run-sound calls g file s in
     record {
       kept = run-contents calls g file s;
+      reads = run-reads calls g file s;
+      stands = run-stands calls g file s;
       stays = run-stays calls g file s;
       found = run-found calls g file s;
       numbered = run-numbered calls g file s;

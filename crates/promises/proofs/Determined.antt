@@ -18,6 +18,7 @@ use Rattle.writer.specs.Answers.{Appends, AppendsFrom}
 use Rattle.batch.specs.declared.batching.Batched.{Batched}
 use Rattle.batch.specs.Batch.{Batch}
 use Rattle.batch.specs.Answers.{AppendsBatch}
+use Rattle.update.specs.Answers.{Update, Updates}
 use Rattle.listing.specs.Listing.{Lists, Prints}
 
 -- a creation has one outcome
@@ -36,6 +37,10 @@ append-from-determined file d addresses h p q f g a b = one-outcome a b
 -- and a batch of them
 pub batch-determined : (file : List ℕ) (b : Batch) (p q : Batched) (f g : List ℕ) → AppendsBatch file b p f → AppendsBatch file b q g → (p ≡ q) × (f ≡ g)
 batch-determined file b p q f g x y = one-outcome x y
+
+-- and an update
+pub update-determined : (file : List ℕ) (u : Update) (p q : ℕ) (f g : List ℕ) → Updates file u p f → Updates file u q g → (p ≡ q) × (f ≡ g)
+update-determined file u p q f g a b = one-outcome a b
 
 -- a listing has one outcome, whatever the buffer held
 pub list-determined : (file out : List ℕ) (p q : ℕ) (f g : List ℕ) → Lists file out p f → Lists file out q g → (p ≡ q) × (f ≡ g)

@@ -1,23 +1,25 @@
 -- What the contracts exclude. Each theorem takes any outcome of a call, for every input, that meets the call's contract. So it is ruled out that a reader or a writer
 -- refuses everything, that an open gives one fixed entry, that an append answers a number and writes nothing or stores only the first entry, that a batch stores
--- other entries than its own, and that a listing has a made-up number of entries. Assumes nothing.
-use Prim.Native.Nat.{ℕ, _+_, _≤_, _<_}
-use mathlib.Core.Path.{_≡_, sym, ap, _∙_}
+-- other entries than its own, that an update refuses content that fits exactly, leaves old bytes in the space or changes a byte outside it, and that a listing has a
+-- made-up number of entries. Assumes nothing.
+use Prim.Native.Nat.{ℕ, _+_, _%_, _≤_, _<_}
+use mathlib.Core.Path.{_≡_, refl, sym, ap, ap₂, _∙_}
 use mathlib.Core.List.{List, [], _∷_, _++_, map, append-nil}
 use native.Mathlib.Omega.{arith}
-use lib.ListN.{length, take, length-append}
+use borrow.Author.Tests.{le-leb, eq-eqb}
+use lib.ListN.{length, take}
 use Rattle.outcome.specs.Outcome.{Answers}
+use Rattle.image.specs.Image.{part}
+use Rattle.image.proofs.Writes.{Beside}
 use Rattle.geometry.specs.declared.units.EntryNumber.{EntryNumber}
 use Rattle.geometry.specs.Units.{entriesBefore}
 use Rattle.descriptor.specs.declared.numbers.Settings.{Settings}
 use Rattle.descriptor.specs.declared.validating.Validation.{Validation}
-use Rattle.descriptor.specs.declared.numbers.DescriptorNumbers.{DescriptorNumbers}
 use Rattle.descriptor.specs.Refusal.{AllHold}
 use Rattle.descriptor.specs.FirstRecord.{numbersOf, addressesOf}
 use Rattle.descriptor.specs.Rules.{fileRefusal}
 use Rattle.descriptor.specs.Answers.{validationOf}
 use Rattle.descriptor.proofs.Refusals.{refusal-none, hold-split}
-use Rattle.descriptor.proofs.Answered.{answer-numbers}
 use Rattle.entry.specs.declared.answers.Opened.{Opened}
 use Rattle.entry.specs.Answers.{openOf, openCase}
 use Rattle.writer.specs.declared.appending.Appended.{Appended}
@@ -28,26 +30,32 @@ use Rattle.batch.specs.declared.batching.Batched.{Batched}
 use Rattle.batch.specs.Batch.{Batch, IntegersIn, entriesIn}
 use Rattle.batch.specs.Rules.{batchRules, batchRefusal}
 use Rattle.batch.specs.Answers.{AppendsBatch}
+use Rattle.handing.specs.Parts.{bytesOf}
+use Rattle.update.specs.Rules.{contentRefusal}
+use Rattle.update.specs.Answers.{Update, spaceOf, padded, updateAt, placeNamed, Updates}
 use Rattle.listing.specs.Text.{joined}
 use Rattle.listing.specs.Listing.{listingOf, overLimit, outputOf, Lists, Prints}
 use Rattle.listing.specs.Lines.{linesIn, AllLines, listingLines, LeavesLines}
 use Rattle.listing.proofs.Lines.{rows-count}
 use Rattle.listing.proofs.Listings.{fit-count, fit-filled, output-within, output-over}
 use Rattle.listing.proofs.Room.{room}
-use Rattle.promises.specs.Contents.{entriesOf, holds, readingOf, contents}
+use Rattle.promises.specs.Contents.{entriesOf, Reading, holds, readingOf, contents}
 use Rattle.promises.specs.Calls.{Call, batch, AllFit, batched, run, answers, handedContent, added, accepted}
-use Rattle.promises.specs.Tables.{validateTests, createTests, openTests, appendTests, inTurnTests, batchTests}
+use Rattle.promises.specs.Tables.{validateTests, createTests, openTests, updateTests, appendTests, inTurnTests, batchTests}
 use Rattle.promises.specs.Demand.{Start}
+use Rattle.promises.specs.Regions.{Sound}
 use Rattle.promises.specs.FileA.{A}
 use Rattle.promises.specs.Examples.{entry, withSection, withoutSection, Differ}
-use Rattle.promises.proofs.Readings.{numbers-shown, length-contents}
-use Rattle.promises.proofs.Series.{after-accepted}
+use Rattle.promises.proofs.Each.{each-kept}
+use Rattle.updated.proofs.Rewritten.{by-update, beside-stays, space-holds}
+use Rattle.promises.proofs.Making.{entries-shown}
+use Rattle.promises.proofs.Series.{run-sound, run-count}
 use Rattle.promises.proofs.AppendNumbers.{accepted-file, answer-there, number-there}
 use Rattle.promises.proofs.NewEntry.{reading-new}
-use Rattle.promises.proofs.Demand3.{demand-3}
+use Rattle.promises.proofs.OrderSound.{order-sound}
+use Rattle.promises.proofs.Demand3.{start-ordered, demand-3}
 use Rattle.promises.proofs.Batches.{batch-all}
-use Rattle.promises.proofs.OrderPassed.{check-passed}
-use Rattle.promises.proofs.RefusalMeans.{validate-means, create-means, open-means, append-means, batch-means}
+use Rattle.promises.proofs.RefusalMeans.{validate-means, create-means, open-means, update-means, append-means, batch-means}
 use Rattle.promises.proofs.WorkedExamples.{first-entries, entries-differ}
 use Rattle.promises.proofs.ListedLines.{over-line, listing-each, listing-joined, leaves-lines}
 
@@ -125,7 +133,30 @@ module _ (answer : List ℕ → Batch → Batched) (after : List ℕ → Batch �
   batch-stores file b g start =
       ap contents (meets file b .1)
       ∙ demand-3 (batch b ∷ []) (g, tt) file start .kept
-      ∙ ap (λ (a : Batched). contents file ++ added (batch b) (batched a)) (sym (meets file b .0))
+      ∙ ap₂ (λ (readings : List Reading) (a : Batched). readings ++ added (batch b) (batched a)) (each-kept (λ k r. r) 1 (contents file) (λ i l r. refl)) (sym (meets file b .0))
+
+-- ---- an update that refuses everything, or an exact fit, that leaves old bytes in the space, or that changes a byte outside it
+
+module _ (answer : List ℕ → Update → ℕ) (after : List ℕ → Update → List ℕ) (meets : (file : List ℕ) (u : Update) → Updates file u (answer file u) (after file u)) where
+  -- every update whose tests all hold is accepted
+  pub updates-good-content : (file : List ℕ) (u : Update) → AllHold (updateTests file u) → answer file u ≡ 0
+  updates-good-content file u all = meets file u .0 ∙ update-means file u .accepted all
+
+  -- so is content of whole words, not empty and no larger than the space of the section: also an exact fit
+  pub updates-what-fits : (file : List ℕ) (u : Update) → let n = length (u .content) in
+      placeNamed file u .refusal ≡ 0 → 1 ≤ n → n % 4 ≡ 0 → n ≤ spaceOf (placeNamed file u) → answer file u ≡ 0
+  unfolding updateAt contentRefusal
+  updates-what-fits file u z some whole fits =
+      let n = length (u .content) in
+      meets file u .0 ∙ rw (z, le-leb 1 n some, eq-eqb (n % 4) 0 whole, le-leb n (spaceOf (placeNamed file u)) fits)
+
+  -- after an accepted update the whole space holds the content, and zeros in the rest
+  pub update-fills : (file : List ℕ) (u : Update) → answer file u ≡ 0 → let p = placeNamed file u in bytesOf (after file u) p ≡ padded (u .content) (spaceOf p)
+  update-fills file u r = rw (meets file u .1) (space-holds file u (sym (meets file u .0) ∙ r))
+
+  -- after any update, accepted or refused, every run of bytes beside the space is as it was
+  pub update-spares : (file : List ℕ) (u : Update) (at n : ℕ) → let p = placeNamed file u in Beside at n (p .start) (spaceOf p) → part (after file u) at n ≡ part file at n
+  update-spares file u at n beside = rw (meets file u .1) (by-update file u (λ z. beside-stays file u z at n beside) (λ same. rw same))
 
 -- ---- a listing with a made-up number of entries
 
@@ -138,15 +169,14 @@ module _ (calls : List Call) (g : AllFit calls) (file : List ℕ) (start : Start
   abbrev new : List ℕ
   new = run calls file
 
+  abbrev sound : Sound file
+  sound = order-sound file (start-ordered file start)
+
   admitted-then : fileRefusal new ≡ 0
-  admitted-then = check-passed new (demand-3 calls g file start .ordered) .0
+  admitted-then = run-sound calls g file sound .admitted
 
   lines-then : 1 + entriesBefore (numbersOf new .xnext) ≡ 1 + entriesOf file + length (accepted calls (answers calls file))
-  lines-then =
-      let given = answers calls file in
-      let kept = demand-3 calls g file start .kept ∙ after-accepted calls given (contents file) in
-      let count = sym (length-contents new) ∙ ap length kept ∙ length-append (contents file) (accepted calls given) in
-      omega (arith, length-contents file, count, ap (λ (m : DescriptorNumbers). entriesBefore (m .xnext)) (numbers-shown new (answer-numbers new admitted-then)))
+  lines-then = omega (arith, run-count calls g file sound, entries-shown new (run-sound calls g file sound))
 
 module _ (answer : List ℕ → List ℕ → ℕ) (after : List ℕ → List ℕ → List ℕ) (meets : (file out : List ℕ) → Lists file out (answer file out) (after file out)) where
   -- a buffer that is long enough starts with the lines of the listing, as many bytes as the answer says; the bytes behind stay

@@ -1,5 +1,6 @@
--- The theorems, from the inside out. Demand 3 is stated in Demand3; what a refusal means in RefusalMeans and CheckMeans, and what it leaves in RefusedAnswers; a batch beside single appends in Batches.
+-- The theorems, from the inside out. Demand 3 is stated in Demand3; what a refusal means in RefusalMeans and CheckMeans, and what it leaves in RefusedAnswers; a batch beside single appends in Batches; what an update leaves in Updates, and what it answers in UpdatesAnswered; what any call makes of a file in Making.
 pub mod Areas
+pub mod SlotAreas
 pub mod Spread
 pub mod EntriesStay
 pub mod SoundAfter
@@ -8,9 +9,12 @@ pub mod OrderPassed
 pub mod OrderSound
 pub mod CreatedSound
 pub mod Readings
+pub mod Each
 pub mod OpenEntries
 pub mod SectionFirst
 pub mod EntryAlike
+pub mod RefusedEntries
+pub mod HandedAlike
 pub mod NewEntry
 pub mod AppendAdds
 pub mod RefusalMeans
@@ -19,7 +23,11 @@ pub mod AppendNumbers
 pub mod Bytes
 pub mod CreateBytes
 pub mod AppendBytes
-pub mod Adding
+pub mod UpdatedEntries
+pub mod UpdatedReadings
+pub mod Updates
+pub mod UpdatesAnswered
+pub mod Making
 pub mod InTurn
 pub mod Series
 pub mod Batches

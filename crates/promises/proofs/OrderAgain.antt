@@ -20,18 +20,19 @@ use Rattle.descriptor.specs.Areas.{areaStartOf}
 use Rattle.order.specs.Order.{allPass, checkOf}
 use Rattle.storing.specs.Handed.{Handed, Integers}
 use Rattle.writer.specs.Answers.{fileAfter}
-use Rattle.batch.specs.Answers.{fileAfterBatch}
 use Rattle.storing.specs.Bounds.{Accepted}
 use Rattle.written.proofs.Cases.{split, by-last}
 use Rattle.written.proofs.AppendLeaves.{new, then, areasThen, left, slot-same, area-from, area-to, area-new, by-area}
 use Rattle.descriptor.proofs.Answered.{file-order}
 use Rattle.written.proofs.ReadBack.{admits, file-written, validated-after}
-use Rattle.promises.specs.Calls.{Call, append, batch, AllFit, run}
+use Rattle.promises.specs.Calls.{Call, append, batch, update, Fits, AllFit, afterCall, run}
 use Rattle.promises.specs.Regions.{SoundIn}
 use Rattle.promises.proofs.SoundAfter.{entry-same, start-last, old-end, areas-before, opens-then}
 use Rattle.promises.proofs.OrderPassed.{slotAt, Passed, check-passes, check-passed}
 use Rattle.promises.proofs.OrderSound.{order-sound}
 use Rattle.promises.proofs.AppendNumbers.{by-answer}
+use Rattle.updated.proofs.Rewritten.{by-update}
+use Rattle.promises.proofs.UpdatedEntries.{update-again}
 use Rattle.promises.proofs.InTurn.{through-batch}
 
 -- ---- one accepted append
@@ -99,8 +100,12 @@ append-again file h g c =
     (check-passes _ _ _ (validated-after file (p .0) x) (all-passed file x (file-order file) (order-sound file c .inside) (g .version) (p .1))))
     (λ same q. rw same c)
 
+call-again : (file : List ℕ) (c : Call) → Fits c → checkOf file ≡ allPass → checkOf (afterCall file c) ≡ allPass
+call-again file (append h) g p = append-again file h g p
+call-again file (batch b) g p = through-batch (λ f. checkOf f ≡ allPass) append-again b g file p
+call-again file (update u) g p = by-update file u (λ z. update-again file u p z) (λ same. rw same p)
+
 -- the order check passes again
 pub run-ordered : (calls : List Call) → AllFit calls → (file : List ℕ) → checkOf file ≡ allPass → checkOf (run calls file) ≡ allPass
-run-ordered [] g file c = c
-run-ordered (append h ∷ cs) g file c = run-ordered cs (g .1) (fileAfter file h) (append-again file h (g .0) c)
-run-ordered (batch b ∷ cs) g file c = run-ordered cs (g .1) (fileAfterBatch file b) (through-batch (λ f. checkOf f ≡ allPass) append-again b (g .0) file c)
+run-ordered [] g file p = p
+run-ordered (c ∷ cs) g file p = run-ordered cs (g .1) (afterCall file c) (call-again file c (g .0) p)

@@ -27,16 +27,22 @@ use Rattle.writer.specs.Creation.{creationRefusal, createdFile}
 use Rattle.batch.specs.Batch.{Batch, entriesIn}
 use Rattle.batch.specs.Rules.{batchRefusal}
 use Rattle.batch.specs.Answers.{answerInTurn, fileInTurn, batchOf, fileAfterBatch}
-use Rattle.written.proofs.ReadBack.{shows, admits, file-written, append-shows}
+use Rattle.update.specs.Answers.{Update, fileAfterUpdate}
+use Rattle.written.proofs.ReadBack.{Shown, shows, admits, file-written, append-shows}
 use Rattle.written.proofs.AppendLeaves.{left}
 use Rattle.written.proofs.CreatedBack.{noAddresses, length-created, created-validated}
-use Rattle.promises.specs.Contents.{contents}
-use Rattle.promises.specs.Calls.{Call, append, batch, AllFit, appended, batched, run, answers, contentsAfterAll}
+use Rattle.promises.specs.Contents.{Reading, contents}
+use Rattle.promises.specs.Calls.{Call, append, batch, update, AllFit, appended, batched, updated, answerOf, afterCall, run, answers, contentsAfter}
 use Rattle.promises.specs.Orders.{settingsWith, numbersWith}
+use Rattle.promises.specs.Regions.{Sound}
 use Rattle.promises.proofs.AppendNumbers.{by-answer}
 use Rattle.promises.proofs.RefusedAnswers.{append-kept}
 use Rattle.promises.proofs.CreatedSound.{created-sound, created-empty}
-use Rattle.promises.proofs.Series.{run-contents}
+use Rattle.updated.proofs.Rewritten.{update-length}
+use Rattle.updated.proofs.EntryAfter.{update-validates}
+use Rattle.promises.specs.UpdateAnswers.{answerFrom}
+use Rattle.promises.proofs.UpdatesAnswered.{update-answered}
+use Rattle.promises.proofs.Series.{call-makes, call-contents}
 
 -- ---- what an append makes of numbers with another order
 
@@ -65,6 +71,17 @@ record Twins (o : ByteOrder) (f g : List ℕ) : Type 0 where
   second : fileRefusal g ≡ 0
   numbers : numbersOf g ≡ numbersWith o (numbersOf f)
   addresses : addressesOf g (numbersOf g .nex) ≡ addressesOf f (numbersOf f .nex)
+
+-- so it is with two files that show such numbers
+twins-shown : {o : ByteOrder} {f g : List ℕ} {d d′ : DescriptorNumbers} {areas areas′ : List RecordNumber} → length g ≡ length f → Shown f d areas → Shown g d′ areas′
+    → d′ ≡ numbersWith o d → areas′ ≡ areas → Twins o f g
+twins-shown {o} size p q numbers addresses = record {
+  size = size;
+  first = p .admitted;
+  second = q .admitted;
+  numbers = q .numbers ∙ numbers ∙ ap (numbersWith o) (sym (p .numbers));
+  addresses = q .table ∙ addresses ∙ sym (p .table);
+}
 
 -- the answer of an append, by its refusal and the number of the next entry
 abbrev answered : ℕ → EntryNumber → Appended
@@ -100,17 +117,9 @@ module _ {o : ByteOrder} {f g : List ℕ} (t : Twins o f g) (h : Handed) where
       by-answer f h (t .first)
       (λ a q.
       let b = refusals-same ∙ a in
-      let p = append-shows f h (t .first) a in
-      let r = append-shows g h (t .second) b in
-      let next : numbersAfter (numbersOf g) (entryStart (numbersOf g) + nwordIn h) ≡ numbersWith o (numbersAfter (numbersOf f) (entryStart (numbersOf f) + nwordIn h)) = rw (t .numbers) (numbers-same o (numbersOf f) h) in
-      let areas : addressesAfter (numbersOf g) (addressesOf g (numbersOf g .nex)) ≡ addressesAfter (numbersOf f) (addressesOf f (numbersOf f .nex)) = rw (t .addresses, t .numbers) (addresses-same o (numbersOf f) (addressesOf f (numbersOf f .nex))) in
-      record {
-        size = append-size g h (t .second) b ∙ t .size ∙ sym (append-size f h (t .first) a);
-        first = p .admitted;
-        second = r .admitted;
-        numbers = r .numbers ∙ next ∙ ap (numbersWith o) (sym (p .numbers));
-        addresses = r .table ∙ areas ∙ sym (p .table);
-      })
+      twins-shown (append-size g h (t .second) b ∙ t .size ∙ sym (append-size f h (t .first) a)) (append-shows f h (t .first) a) (append-shows g h (t .second) b)
+      (rw (t .numbers) (numbers-same o (numbersOf f) h))
+      (rw (t .addresses, t .numbers) (addresses-same o (numbersOf f) (addressesOf f (numbersOf f .nex)))))
       (λ same q.
       let other = append-kept g h (λ e. eqb-false (appendOf f h .refusal) 0 q (ap (λ (x : Appended). x .refusal) (sym answers-same) ∙ e)) in
       rw (same, other) t)
@@ -128,12 +137,47 @@ batch-same : (b : Batch) {o : ByteOrder} {f g : List ℕ} → Twins o f g → (b
 unfolding batchOf fileAfterBatch
 batch-same b t = either (eqb (batchRefusal b) 0) (λ q. rw q (turns-same (entriesIn b) 0 t)) (λ q. rw q (refl, t))
 
+-- ---- an update to each
+
+-- it leaves what validating shows
+update-shows : (file : List ℕ) (u : Update) → fileRefusal file ≡ 0 → Shown (fileAfterUpdate file u) (numbersOf file) (addressesOf file (numbersOf file .nex))
+update-shows file u z = shows (fileAfterUpdate file u) (numbersOf file) (addressesOf file (numbersOf file .nex)) (update-validates file u ∙ answer-numbers file z)
+
+-- so the files after it differ in their order alone
+update-twins : (u : Update) {o : ByteOrder} {f g : List ℕ} → Twins o f g → Twins o (fileAfterUpdate f u) (fileAfterUpdate g u)
+update-twins u {f} {g} t =
+    twins-shown (update-length g u ∙ t .size ∙ sym (update-length f u)) (update-shows f u (t .first)) (update-shows g u (t .second)) (t .numbers) (t .addresses)
+
 -- ---- a series of calls
 
-series-same : (calls : List Call) {o : ByteOrder} {f g : List ℕ} → Twins o f g → answers calls g ≡ answers calls f
-series-same [] t = refl
-series-same (append h ∷ cs) t = λ i. appended (answers-same t h i) ∷ series-same cs (twins-after t h) i
-series-same (batch b ∷ cs) t = let s = batch-same b t in λ i. batched (s .0 i) ∷ series-same cs (s .1) i
+-- two such files, both sound, with the same contents
+record Alike (o : ByteOrder) (f g : List ℕ) : Type 0 where
+  twins : Twins o f g
+  first : Sound f
+  second : Sound g
+  same : contents g ≡ contents f
+
+-- a call answers the same, and leaves such files again; what an update answers is fixed by the contents
+call-same : (c : Call) {o : ByteOrder} {f g : List ℕ} → Alike o f g → (answerOf g c ≡ answerOf f c) × Twins o (afterCall f c) (afterCall g c)
+call-same (append h) a = (ap appended (answers-same (a .twins) h), twins-after (a .twins) h)
+call-same (batch b) a = let s = batch-same b (a .twins) in (ap batched (s .0), s .1)
+call-same (update u) {f} {g} a =
+    let answer = update-answered g (a .twins .second) u ∙ ap (λ (readings : List Reading). answerFrom readings u) (a .same) ∙ sym (update-answered f (a .twins .first) u) in
+    (ap updated answer, update-twins u (a .twins))
+
+-- so does a series
+series-same : (calls : List Call) → AllFit calls → {o : ByteOrder} {f g : List ℕ} → Alike o f g → (answers calls g ≡ answers calls f) × (contents (run calls g) ≡ contents (run calls f))
+series-same [] fits a = (refl, a .same)
+series-same (c ∷ cs) fits {o} {f} {g} a =
+    let s = call-same c a in
+    let next : Alike o (afterCall f c) (afterCall g c) = record {
+      twins = s .1;
+      first = call-makes f (a .first) c (fits .0) .sound;
+      second = call-makes g (a .second) c (fits .0) .sound;
+      same = call-contents g (a .second) c (fits .0) ∙ ap₂ (contentsAfter c) (s .0) (a .same) ∙ sym (call-contents f (a .first) c (fits .0));
+    } in
+    let others = series-same cs (fits .1) next in
+    (λ i. s .0 i ∷ others .0 i, others .1)
 
 -- two creations with the same settings, each in its own order and in a buffer of its own, and the same calls on each: the answers and the contents are the same
 module _ (s : Settings) (o p : ℤ) (f g : List ℕ) (size : length g ≡ length f)
@@ -147,23 +191,22 @@ module _ (s : Settings) (o p : ℤ) (f g : List ℕ) (size : length g ≡ length
   created-twins : Twins (record { 0 = bitsOf integer4 p }) one two
   unfolding createdOf
   created-twins =
-      let a = shows one (createdOf (settingsWith o s)) noAddresses (created-validated f (settingsWith o s) made) in
-      let b = shows two (createdOf (settingsWith p s)) noAddresses (created-validated g (settingsWith p s) other) in
-      record {
-        size = length-created g (settingsWith p s) other ∙ size ∙ sym (length-created f (settingsWith o s) made);
-        first = a .admitted;
-        second = b .admitted;
-        numbers = b .numbers ∙ ap (numbersWith (record { 0 = bitsOf integer4 p })) (sym (a .numbers));
-        addresses = b .table ∙ sym (a .table);
-      }
+      twins-shown (length-created g (settingsWith p s) other ∙ size ∙ sym (length-created f (settingsWith o s) made))
+      (shows one (createdOf (settingsWith o s)) noAddresses (created-validated f (settingsWith o s) made))
+      (shows two (createdOf (settingsWith p s)) noAddresses (created-validated g (settingsWith p s) other)) refl refl
+
+  created-alike : Alike (record { 0 = bitsOf integer4 p }) one two
+  created-alike = record {
+    twins = created-twins;
+    first = created-sound f (settingsWith o s) made;
+    second = created-sound g (settingsWith p s) other;
+    same = created-empty g (settingsWith p s) other ∙ sym (created-empty f (settingsWith o s) made);
+  }
 
   -- the answers
-  pub order-answers : (calls : List Call) → answers calls two ≡ answers calls one
-  order-answers calls = series-same calls created-twins
+  pub order-answers : (calls : List Call) → AllFit calls → answers calls two ≡ answers calls one
+  order-answers calls fits = series-same calls fits created-alike .0
 
   -- the contents
   pub order-contents : (calls : List Call) → AllFit calls → contents (run calls two) ≡ contents (run calls one)
-  order-contents calls fits =
-      run-contents calls fits two (created-sound g (settingsWith p s) other)
-      ∙ ap₂ (contentsAfterAll calls) (order-answers calls) (created-empty g (settingsWith p s) other ∙ sym (created-empty f (settingsWith o s) made))
-      ∙ sym (run-contents calls fits one (created-sound f (settingsWith o s) made))
+  order-contents calls fits = series-same calls fits created-alike .1

@@ -35,11 +35,14 @@ use Rattle.storing.specs.Handed.{Handed}
 use Rattle.writer.specs.Rules.{appendRules, appendRefusal}
 use Rattle.writer.specs.Answers.{acceptedFrom, refusedFrom, appendedFrom, appendIn, appendOf, fileAfter}
 use Rattle.writer.specs.Creation.{creationRefusal}
+use Rattle.batch.specs.declared.batching.Batched.{Batched}
 use Rattle.batch.specs.Batch.{Batch, entriesIn}
 use Rattle.batch.specs.Rules.{batchRules, batchRefusal}
 use Rattle.batch.specs.Answers.{answerInTurn, batchOf}
+use Rattle.update.specs.Rules.{contentRules, contentRefusal}
+use Rattle.update.specs.Answers.{Update, spaceOf, updateAt, placeNamed, updateOf}
 use Rattle.outcome.proofs.Either.{either}
-use Rattle.promises.specs.Tables.{extensionRows, entryRows, sectionRows, Exactly, validateTests, createTests, extensionTests, openTests, sectionTests, appendTests, inTurnTests, batchTests}
+use Rattle.promises.specs.Tables.{extensionRows, entryRows, sectionRows, Exactly, validateTests, createTests, extensionTests, openTests, sectionTests, updateTests, appendTests, inTurnTests, batchTests}
 
 -- ---- any table
 
@@ -86,6 +89,11 @@ exact-number n rules m e =
 -- an answer with the number 0 where n is 0, and with n elsewhere, has the number n
 chosen : {A : Type 0} (number : A → ℕ) (n : ℕ) (x y : A) → number x ≡ 0 → number y ≡ n → number (cond (eqb n 0) x y) ≡ n
 chosen number n x y f g = either (eqb n 0) (λ q. rw q (f ∙ sym (eqb-true n 0 q))) (λ q. rw q g)
+
+-- where n is the first table's refusal, and x has the number of the second's, it has that of the two joined
+chosen-joined : {A : Type 0} (number : A → ℕ) (n : ℕ) (x y : A) (rs ss : List Rule) → Numbered rs → n ≡ refusalIn rs → number x ≡ refusalIn ss → number y ≡ n
+    → number (cond (eqb n 0) x y) ≡ refusalIn (rs ++ ss)
+chosen-joined number n x y rs ss m e f g = joined (number (cond (eqb n 0) x y)) rs ss m (λ z. rw (e ∙ z) f) (λ q. rw (ap (λ (k : ℕ). eqb k 0) e ∙ q) (g ∙ e))
 
 -- ---- the calls
 
@@ -181,13 +189,23 @@ module _ (file : List ℕ) where
     unfolding sectionPart
     section-means identifier =
         part-means (λ addresses d. sectionPart file d addresses e identifier) (entryRows file e ++ sectionRows file e identifier) (omega arith)
-        (joined (sectionPart file d addresses e identifier .refusal) (entryRows file e) (sectionRows file e identifier) (omega arith) there
-        (λ q. rw (ap (λ (n : ℕ). eqb n 0) entry-number ∙ q) entry-number))
-      where
-        there : refusalIn (entryRows file e) ≡ 0 → sectionPart file d addresses e identifier .refusal ≡ refusalIn (sectionRows file e identifier)
-        there z =
-            rw (entry-number ∙ z)
-            (either (ltb (sectionNamed file (entry .start) identifier 0 (entry .nsec)) (entry .nsec)) (λ q. rw q) (λ q. rw q))
+        (chosen-joined (λ (p : PartPlace). p .refusal) (entry .refusal) _ (noPart (entry .refusal)) (entryRows file e) (sectionRows file e identifier) (omega arith) entry-number
+        (either (ltb (sectionNamed file (entry .start) identifier 0 (entry .nsec)) (entry .nsec)) (λ q. rw q) (λ q. rw q))
+        refl)
+
+-- ---- updates
+
+-- an update
+pub update-means : (file : List ℕ) (u : Update) → Exactly (updateOf file u) (updateTests file u)
+unfolding updateAt contentRefusal
+update-means file u =
+    let p = placeNamed file u in
+    let rows = sectionTests file (u .number) (u .identifier) in
+    let more = contentRules (length (u .content)) (spaceOf p) in
+    let numbered = numbered-joined (validateTests file) (entryRows file (u .number) ++ sectionRows file (u .number) (u .identifier)) (omega arith) (omega arith) in
+    let e = exact-number (p .refusal) rows numbered (section-means file (u .number) (u .identifier)) in
+    exactly (updateOf file u) (updateTests file u) (numbered-joined rows more numbered (omega arith))
+    (chosen-joined (λ (n : ℕ). n) (p .refusal) (contentRefusal (length (u .content)) (spaceOf p)) (p .refusal) rows more numbered e refl refl)
 
 -- ---- batches
 
@@ -204,10 +222,8 @@ append-number file h = exact-number (appendOf file h .refusal) (appendTests file
 turns-number : (hs : List Handed) (n : ℕ) (file : List ℕ) → answerInTurn n file hs .refusal ≡ refusalIn (inTurnTests file hs)
 turns-number [] n file = refl
 turns-number (h ∷ hs) n file =
-    let e = append-number file h in
-    joined (answerInTurn n file (h ∷ hs) .refusal) (appendTests file h) (inTurnTests (fileAfter file h) hs) (omega arith)
-    (λ z. rw (e ∙ z) (turns-number hs (n + 1) (fileAfter file h)))
-    (λ q. rw (ap (λ (k : ℕ). eqb k 0) e ∙ q) e)
+    chosen-joined (λ (x : Batched). x .refusal) (appendOf file h .refusal) _ _ (appendTests file h) (inTurnTests (fileAfter file h) hs) (omega arith)
+    (append-number file h) (turns-number hs (n + 1) (fileAfter file h)) refl
 
 -- they never answer 26, which no row of an append has
 turns-no-26 : (hs : List Handed) (n : ℕ) (file : List ℕ) → answerInTurn n file hs .refusal ≡ 26 → ⊥
@@ -225,7 +241,7 @@ module _ (file : List ℕ) (b : Batch) where
   batch-means =
       let rest = inTurnTests file (entriesIn b) in
       exactly (batchOf file b .refusal) (batchTests file b) (numbered-joined (batchRules b) rest (omega arith) (turns-numbered (entriesIn b) file))
-      (joined (batchOf file b .refusal) (batchRules b) rest (omega arith) (λ z. rw z (turns-number (entriesIn b) 0 file)) (λ q. rw q))
+      (chosen-joined (λ (x : Batched). x .refusal) (batchRefusal b) _ _ (batchRules b) rest (omega arith) refl (turns-number (entriesIn b) 0 file) refl)
 
   -- 26 is given exactly when a test of the batch as a whole fails, and then nothing is accepted
   pub batch-26 : (batchOf file b .refusal ≡ 26 → Given 26 (batchRules b)) × (Given 26 (batchRules b) → batchOf file b ≡ record { refusal = 26; accepted = 0 })

@@ -1,65 +1,43 @@
 -- Demand 3. From a sound file, after any series of calls, accepted or refused: going through the numbers gives the starting entries and then every accepted one,
--- once, in order, unchanged; every starting entry is as it was; the k-th accepted entry has number n + k, which is what its append answers; and the file is sound again.
--- Assumes nothing.
-use Prim.Native.Nat.{ℕ, suc, _+_, _≤_, _<_}
-use mathlib.Core.Path.{_≡_, sym, ap, _∙_}
-use mathlib.Core.List.{List, [], _∷_, _++_, append-assoc, append-nil}
+-- once, in order, each section as last updated; every starting entry stands where it stood, and is unchanged where no update of it was accepted; the k-th accepted entry
+-- has number n + k, which is what its append answers; and the file is sound again. Assumes nothing.
+use Prim.Native.Nat.{ℕ, _+_, _≤_, _<_}
+use mathlib.Core.Path.{_≡_, refl, sym, ap, _∙_}
+use mathlib.Core.Bool.{false}
+use mathlib.Core.List.{List, [], _∷_}
 use native.Mathlib.Omega.{arith}
 use lib.ListN.{length, getD}
-use lib.Seq.{getD-append-add}
 use Rattle.geometry.specs.declared.units.EntryNumber.{EntryNumber}
 use Rattle.descriptor.proofs.Answered.{file-admitted}
-use Rattle.promises.specs.Contents.{entriesOf, Reading, refused, readingOf, contents, Unchanged}
-use Rattle.promises.specs.Calls.{Call, append, batch, Fits, AllFit, Answer, answerOf, afterCall, run, answers, added, contentsAfterAll, accepted, NumberedNext, AllNumbered}
+use Rattle.promises.specs.Contents.{entriesOf, Reading, refused, readingOf, contents, InPlace, Unchanged}
+use Rattle.promises.specs.Calls.{Call, append, batch, update, Fits, AllFit, answerOf, afterCall, run, answers, added, accepted, updates, readingAfter, readingAfterAll, NoneUpdates, contentsAfter, contentsAfterAll, NumberedNext, AllNumbered}
 use Rattle.promises.specs.Regions.{Sound}
-use Rattle.promises.proofs.Readings.{length-contents, contents-at}
+use Rattle.promises.proofs.Readings.{length-contents}
+use Rattle.promises.proofs.Each.{each-behind}
 use Rattle.promises.proofs.AppendNumbers.{answer-there, number-there}
-use Rattle.promises.proofs.Adding.{entries-shown, Adds, adds-none, adds-count, adds-on, append-adds}
-use Rattle.promises.proofs.InTurn.{batch-adds}
+use Rattle.promises.proofs.Making.{entries-shown, Makes, makes-none, makes-count, makes-reads, makes-found, makes-on, append-makes, update-makes}
+use Rattle.promises.proofs.InTurn.{batch-makes}
 
--- ---- what is added
+-- ---- one call
 
--- a call adds what its answer says
-call-adds : (file : List ℕ) → Sound file → (c : Call) → Fits c → Adds file (afterCall file c) (added c (answerOf file c))
-call-adds file s (append h) g = append-adds file s h g
-call-adds file s (batch b) g = batch-adds file s b g
+-- it makes of a sound file what its answer says
+pub call-makes : (file : List ℕ) → Sound file → (c : Call) → Fits c
+    → Makes file (afterCall file c) (readingAfter c (answerOf file c)) (λ e. updates c (answerOf file c) e ≡ false) (added c (answerOf file c))
+call-makes file s (append h) g = append-makes file s h g
+call-makes file s (batch b) g = batch-makes file s b g
+call-makes file s (update u) g = update-makes file s u
 
--- and a series all that is accepted
-run-adds : (calls : List Call) → AllFit calls → (file : List ℕ) → Sound file → Adds file (run calls file) (accepted calls (answers calls file))
-run-adds [] g file s = adds-none file s
-run-adds (c ∷ cs) g file s = let first = call-adds file s c (g .0) in adds-on first (run-adds cs (g .1) (afterCall file c) (first .sound))
+-- it updates no entry that was not there before it
+call-within : (file : List ℕ) → Sound file → (c : Call) (k : ℕ) → entriesOf file < k → (r : Reading) → readingAfter c (answerOf file c) k r ≡ r
+call-within file s (append h) k l r = refl
+call-within file s (batch b) k l r = refl
+call-within file s (update u) k l r = let made = update-makes file s u in made .behind k (omega (arith, makes-count made)) r
 
--- the file is sound again: it is admitted, all its entries open, and no two of its regions share a word
-pub run-sound : (calls : List Call) → AllFit calls → (file : List ℕ) → Sound file → Sound (run calls file)
-run-sound calls g file s = run-adds calls g file s .sound
-
--- what the calls leave, one after the other, are the starting contents and then every accepted one
-pub after-accepted : (calls : List Call) (given : List Answer) (readings : List Reading) → contentsAfterAll calls given readings ≡ readings ++ accepted calls given
-after-accepted [] given readings = sym (append-nil readings)
-after-accepted (c ∷ cs) [] readings = sym (append-nil readings)
-after-accepted (c ∷ cs) (a ∷ given) readings = after-accepted cs given (readings ++ added c a) ∙ append-assoc readings (added c a) (accepted cs given)
-
--- so the contents are what the calls leave
-pub run-contents : (calls : List Call) → AllFit calls → (file : List ℕ) → Sound file → contents (run calls file) ≡ contentsAfterAll calls (answers calls file) (contents file)
-run-contents calls g file s = run-adds calls g file s .kept ∙ sym (after-accepted calls (answers calls file) (contents file))
-
--- every entry that was there is as it was
-pub run-stays : (calls : List Call) → AllFit calls → (file : List ℕ) → Sound file → (e : ℕ) → 1 ≤ e → e ≤ entriesOf file → Unchanged file (run calls file) (record { 0 = e })
-run-stays calls g file s = run-adds calls g file s .stays
-
--- ---- the numbers
-
--- the k-th accepted entry has number n + k
-pub run-found : (calls : List Call) → AllFit calls → (file : List ℕ) → Sound file → (k : ℕ) → k < length (accepted calls (answers calls file))
-    → readingOf (run calls file) (record { 0 = entriesOf file + k + 1 }) ≡ getD (accepted calls (answers calls file)) k (refused 0)
-run-found calls g file s k l =
-    let a = run-adds calls g file s in
-    let more = accepted calls (answers calls file) in
-    let at : entriesOf file + k + 1 ≡ suc (length (contents file) + k) = omega (arith, length-contents file) in
-    ap (λ (e : ℕ). readingOf (run calls file) (record { 0 = e })) at
-    ∙ sym (contents-at (run calls file) (length (contents file) + k) (refused 0) (omega (arith, length-contents file, adds-count a)))
-    ∙ ap (λ (readings : List Reading). getD readings (length (contents file) + k) (refused 0)) (a .kept)
-    ∙ getD-append-add (contents file) more k (refused 0)
+-- so it leaves the contents before it, each updated or not, and then what it adds
+pub call-contents : (file : List ℕ) → Sound file → (c : Call) → Fits c → contents (afterCall file c) ≡ contentsAfter c (answerOf file c) (contents file)
+call-contents file s c g =
+    let a = answerOf file c in
+    call-makes file s c g .kept ∙ sym (each-behind (readingAfter c a) 1 (contents file) (added c a) (λ i l. call-within file s c i (omega (arith, length-contents file))))
 
 -- an accepted append answers n + 1
 call-numbered : (file : List ℕ) → Sound file → (c : Call) → NumberedNext (entriesOf file) (answerOf file c)
@@ -67,10 +45,53 @@ call-numbered file s (append h) =
     let z = s .admitted in
     λ r. omega (arith, entries-shown file s, ap (λ (n : EntryNumber). n .0) (number-there file h z (sym (answer-there file h z) ∙ r)), file-admitted file z .counted)
 call-numbered file s (batch b) = tt
+call-numbered file s (update u) = tt
 
--- so does each, after the entries that the calls before it added
+-- ---- a series
+
+-- so does a series, call by call
+run-makes : (calls : List Call) → AllFit calls → (file : List ℕ) → Sound file → let given = answers calls file in
+    Makes file (run calls file) (readingAfterAll calls given) (NoneUpdates calls given) (accepted calls given)
+run-makes [] g file s = makes-none file s
+run-makes (c ∷ cs) g file s = let first = call-makes file s c (g .0) in makes-on first (run-makes cs (g .1) (afterCall file c) (first .sound)) (λ e same. same)
+
+-- the contents are what the calls leave, one after the other
+pub run-contents : (calls : List Call) → AllFit calls → (file : List ℕ) → Sound file → contents (run calls file) ≡ contentsAfterAll calls (answers calls file) (contents file)
+run-contents [] g file s = refl
+run-contents (c ∷ cs) g file s =
+    let next = afterCall file c in
+    run-contents cs (g .1) next (call-makes file s c (g .0) .sound) ∙ ap (contentsAfterAll cs (answers cs next)) (call-contents file s c (g .0))
+
+-- each accepted append answers its number, after the entries that the calls before it added
 pub run-numbered : (calls : List Call) → AllFit calls → (file : List ℕ) → Sound file → AllNumbered (entriesOf file) calls (answers calls file)
 run-numbered [] g file s = tt
 run-numbered (c ∷ cs) g file s =
-    let first = call-adds file s c (g .0) in
-    (call-numbered file s c, rw (adds-count first) at (run-numbered cs (g .1) (afterCall file c) (first .sound)))
+    let first = call-makes file s c (g .0) in
+    (call-numbered file s c, rw (makes-count first) at (run-numbered cs (g .1) (afterCall file c) (first .sound)))
+
+module _ (calls : List Call) (g : AllFit calls) (file : List ℕ) (s : Sound file) where
+  -- the file is sound again: it is admitted, all its entries open, and no two of its regions share a word
+  pub run-sound : Sound (run calls file)
+  run-sound = run-makes calls g file s .sound
+
+  -- it has an entry more for each accepted one
+  pub run-count : entriesOf (run calls file) ≡ entriesOf file + length (accepted calls (answers calls file))
+  run-count = makes-count (run-makes calls g file s)
+
+  -- every entry that was there reads as before, with the accepted updates of it
+  pub run-reads : (e : ℕ) → 1 ≤ e → e ≤ entriesOf file
+      → readingOf (run calls file) (record { 0 = e }) ≡ readingAfterAll calls (answers calls file) e (readingOf file (record { 0 = e }))
+  run-reads = makes-reads (run-makes calls g file s)
+
+  -- it stands where it stood
+  pub run-stands : (e : ℕ) → 1 ≤ e → e ≤ entriesOf file → InPlace file (run calls file) (record { 0 = e })
+  run-stands = run-makes calls g file s .stands
+
+  -- and is unchanged where no update of it was accepted
+  pub run-stays : (e : ℕ) → 1 ≤ e → e ≤ entriesOf file → NoneUpdates calls (answers calls file) e → Unchanged file (run calls file) (record { 0 = e })
+  run-stays = run-makes calls g file s .stays
+
+  -- the k-th accepted entry has number n + k, and reads as handed in, with the accepted updates of it
+  pub run-found : (k : ℕ) → k < length (accepted calls (answers calls file)) → let e = entriesOf file + k + 1 in
+      readingOf (run calls file) (record { 0 = e }) ≡ readingAfterAll calls (answers calls file) e (getD (accepted calls (answers calls file)) k (refused 0))
+  run-found = makes-found (run-makes calls g file s)

@@ -11,13 +11,11 @@ use Rattle.words.specs.Word.{integer4}
 use Rattle.geometry.specs.declared.units.RecordNumber.{RecordNumber}
 use Rattle.geometry.specs.Units.{entriesBefore}
 use Rattle.geometry.specs.Area.{slotOf}
-use Rattle.geometry.proofs.Slots.{slot-within}
 use Rattle.layout.specs.FileCode.{byteOrderOf}
 use Rattle.descriptor.specs.declared.numbers.DescriptorNumbers.{DescriptorNumbers}
 use Rattle.descriptor.specs.FirstRecord.{growthIn, freeOf}
 use Rattle.entry.specs.declared.entered.Entered.{Entered}
-use Rattle.entry.specs.Opening.{slotPositionOf, endOf}
-use Rattle.entry.proofs.Entering.{slot-in-use}
+use Rattle.entry.specs.Opening.{endOf}
 use Rattle.alike.proofs.Described.{opens-there, entered-there}
 use Rattle.alike.proofs.Agreeing.{Agrees}
 use Rattle.descriptor.specs.Areas.{areaStartOf, areaEndOf}
@@ -28,7 +26,8 @@ use Rattle.written.proofs.Cases.{by-last}
 use Rattle.written.proofs.AppendLeaves.{new, then, areasThen, slot, left, area-from, area-to, area-new, by-area, area-last}
 use Rattle.written.proofs.Reopened.{not-refused, entered-new}
 use Rattle.promises.specs.Regions.{SoundIn}
-use Rattle.promises.proofs.Areas.{area-end-le, area-holds}
+use Rattle.promises.proofs.Areas.{area-end-le}
+use Rattle.promises.proofs.SlotAreas.{slot-in-area}
 use Rattle.promises.proofs.Spread.{Clear, clear-in, entryAt, Spread, AllOpen, opened-free, apart-spread}
 use Rattle.promises.proofs.EntriesStay.{agrees}
 
@@ -48,18 +47,6 @@ module _ (file : List ℕ) {d : DescriptorNumbers} {addresses : List RecordNumbe
   abbrev extension : ℕ
   extension = slotOf (growthIn (then file x)) (then file x .nex) (then file x .lind) (d .xnext) .extension .0
 
-  -- it stands in an area
-  slot-in-area : (1 ≤ extension) × (extension ≤ then file x .nex) × (areaStartOf (then file x) (areasThen file x) extension ≤ slot file x)
-      × (slot file x + d .lind ≤ areaEndOf (then file x) (areasThen file x) extension)
-  unfolding slotPositionOf
-  slot-in-area =
-      let t = then file x in
-      let l = left file x in
-      let place = slotOf (growthIn t) (t .nex) (t .lind) (d .xnext) in
-      let u = slot-in-use (length file) t (areasThen file x) (l .admitted) (d .xnext) (x .admitted .counted) (omega arith) in
-      let ends = slot-within (growthIn t) (t .nex) (t .lind) (d .xnext .0) place u in
-      (u .held .counted, u .used, omega arith, omega (arith, area-holds (length file) t (areasThen file x) (l .admitted) extension (u .held .counted) (u .used)))
-
   -- ---- the entries that were there
 
   module _ (e : ℕ) (low : 1 ≤ e) (high : e ≤ n) where
@@ -72,7 +59,8 @@ module _ (file : List ℕ) {d : DescriptorNumbers} {addresses : List RecordNumbe
     -- the new slot meets none of them
     slot-clear : Beside (old .start) (old .nword) (slot file x) (d .lind)
     slot-clear =
-        let i = slot-in-area in
+        let l = left file x in
+        let i = slot-in-area (length file) (then file x) (areasThen file x) (l .admitted) (d .xnext) (x .admitted .counted) (omega arith) in
         by-area file x extension (i .1)
         (λ m. clear-in (omega arith) (omega arith) (omega (arith, area-from file x extension (i .0) m)) (omega (arith, area-to file x extension (i .0) m))
         (spread .areas e extension low high (i .0) m))

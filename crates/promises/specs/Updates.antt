@@ -1,8 +1,10 @@
 -- What is handed out after an accepted update of a section (Q-3 of 02).
-use Prim.Native.Nat.{ℕ}
+use Prim.Native.Nat.{ℕ, _+_, _≤_}
 use mathlib.Core.Path.{_≡_}
+use mathlib.Core.Logic.{_⊎_}
 use mathlib.Core.List.{List}
 use lib.IntN.{ℤ}
+use Rattle.image.specs.Image.{part}
 use Rattle.geometry.specs.declared.units.EntryNumber.{EntryNumber}
 use Rattle.descriptor.specs.Answers.{validationOf}
 use Rattle.entry.specs.Answers.{openOf}
@@ -26,5 +28,7 @@ pub record OneRewritten (before after : List ℕ) (u : Update) : Type 0 where
   pub elsewhere : (e : EntryNumber) → (e ≡ u .number → ⊥) → (z : ℤ) → sectionFound after e z ≡ sectionFound before e z
   -- every entry opens as it did, and hands out the index words and the data that it did
   pub entries : (e : EntryNumber) → HandsOut before after e
-  -- and the file validates as it did
+  -- the file validates as it did
   pub validated : validationOf after ≡ validationOf before
+  -- and no byte that is not in the section's space has changed
+  pub bytes : (at n : ℕ) → let p = placeNamed before u in (at + n ≤ p .start) ⊎ (p .start + spaceOf p ≤ at) → part after at n ≡ part before at n
