@@ -1,12 +1,13 @@
-//! Demand 3 on a series, from the library's answers and files alone: what is read after the calls that change the file is
-//! what was read before them and then what the accepted appends were given, numbered on, a section as it was last updated,
-//! and the order check passes. A batch counts as its appends.
+//! Demand 3 on a series, from the library's answers and files alone: what is read after the calls that change the file
+//! is what was read before them and then what the accepted appends were given, numbered on, a section as it was last
+//! updated, and the order check passes. A batch counts as its appends.
 
 use crate::driver::Given;
 use crate::reference::{entries_of, Addition, Batch, Update};
 use crate::script::{Asked, Call};
 
-/// What an entry holds: version, application index words, what each identifier gives, in the order of the sections, data.
+/// What an entry holds: version, application index words, what each identifier gives in the order of the sections, and
+/// data.
 #[derive(Default, PartialEq)]
 struct Content {
     version: i32,

@@ -54,8 +54,8 @@ struct Comparison {
     table: Table,
 }
 
-/// The series of one order: how many, how many that fail demand 3, the batches in them, and the appends, those of batches
-/// too, and the updates, accepted and refused.
+/// The series of one order: how many, how many that fail demand 3, the batches in them, and accepted and refused the
+/// appends, those of batches too, and the updates.
 #[derive(Default)]
 struct Series {
     made: usize,

@@ -1,7 +1,7 @@
-//! The independent implementation of document 01, with the batches of Q-1, the capacities of Q-2, the updates of Q-3, the
-//! byte orders of Q-4 and the leftovers of Q-7 in document 02, plain and slow, over the lent bytes of a file: written from
-//! these papers and the memo alone. Every number is an i128, so that no sum or product of stored numbers or of counts can
-//! wrap. The calls that write stand in writer.rs.
+//! The independent implementation of document 01, with the batches of Q-1, the capacities of Q-2, the updates of Q-3,
+//! the byte orders of Q-4 and the leftovers of Q-7 in document 02, plain and slow, over the lent bytes of a file:
+//! written from these papers and the memo alone. Every number is an i128, so that no sum or product of stored numbers
+//! or of counts can wrap. The calls that write stand in writer.rs.
 
 #[path = "writer.rs"]
 mod writer;

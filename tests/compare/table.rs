@@ -104,8 +104,8 @@ const CONTENTS: [&str; 4] = ["empty", "not whole words", "more than any section 
 /// How often something was seen in each order, by the order's number.
 type Seen = [usize; 2];
 
-/// How often each cell, each way, each way at a place in a batch, and each refusal of an update with a kind of content was
-/// seen.
+/// How often each cell, each way, each way at a place in a batch, and each refusal of an update with a kind of content
+/// was seen.
 #[derive(Default)]
 pub struct Table {
     cells: BTreeMap<(usize, u32), Seen>,
@@ -218,8 +218,8 @@ impl Table {
         wrong
     }
 
-    /// The ways, the ways at a place in a batch, and the refusals of an update with a kind of content that were never seen
-    /// in one of the orders.
+    /// The ways, the ways at a place in a batch, and the refusals of an update with a kind of content that were never
+    /// seen in one of the orders.
     pub fn missing_ways(&self) -> Vec<String> {
         let mut missing = vec![];
         for order in Order::BOTH {

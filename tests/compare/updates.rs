@@ -84,8 +84,8 @@ pub fn any_update(random: &mut Random, file: &[u8], entry: u64) -> Update {
     }
 }
 
-/// Updates of a section by contents of every size about a space: none, about one word, about the exact fit, any number of
-/// words, and far too large.
+/// Updates of a section by contents of every size about a space: none, about one word, about the exact fit, any number
+/// of words, and far too large.
 fn of_every_size(random: &mut Random, target: Target, space: usize) -> Vec<Update> {
     let fit = 4 * space;
     let mut sizes: Vec<usize> = (0..=5).chain(fit - 3..=fit + 5).collect();
@@ -170,8 +170,8 @@ fn absent(random: &mut Random, ids: &[i32]) -> Vec<i32> {
     all
 }
 
-/// Identifiers that are put at a second place of their entry, and at times at a third: the first section counts, whether
-/// the others have more space or less.
+/// Identifiers that are put at a second place of their entry, and at times at a third: the first section counts,
+/// whether the others have more space or less.
 pub fn twice(random: &mut Random, script: &mut Script) {
     let mut shape = files::shape(random, script.order);
     shape.entries = shape.entries.clamp(1, 2);
@@ -194,7 +194,7 @@ pub fn twice(random: &mut Random, script: &mut Script) {
     }
 }
 
-/// Each edge value in each field of a small file, with a content that does not fit, one that does, and any.
+/// Each edge value in each field of a small file, with a content that does not fit and with one that does.
 pub fn every_edge(random: &mut Random, script: &mut Script) {
     let shape = Shape { least_sections: 1, ..small_shape(random, script.order) };
     let made = lend(random, script, &shape);
@@ -275,8 +275,8 @@ fn end_of(made: &Made, entry: u64) -> usize {
     start + made.integer8(4 * (start + 3)) as usize
 }
 
-/// Makes an entry longer, up to the next free position, and moves one of its sections behind what the entry was, to where
-/// it has the word at a place.
+/// Makes an entry longer, up to the next free position, and moves one of its sections behind what the entry was, to
+/// where it has the word at a place.
 fn moved(random: &mut Random, script: &mut Script, made: &Made, entry: u64, place: usize) -> Target {
     let (placed, end) = (&made.entries[entry as usize - 1], end_of(made, entry));
     let identifier = random.pick(&placed.ids);
@@ -306,7 +306,8 @@ pub fn neighbours(random: &mut Random, script: &mut Script) {
     let rest = left - 5 * ids.len() - lengths.iter().sum::<i64>() as usize;
     lengths.push(rest as i64);
     let sections = random.bytes(4 * (left - 5 * ids.len()));
-    script.call(Call::Append(Addition { ids, lengths, sections, ..bare }));
+    let refusal = script.call(Call::Append(Addition { ids, lengths, sections, ..bare }));
+    assert_eq!(refusal, 0, "the reference does not fill a file to its end");
     let mut all = targets(&script.file);
     random.shuffle(&mut all);
     for &target in all.iter().take(12) {

@@ -248,8 +248,8 @@ fn test_content(u: &Update, space: i128) -> Result<(), Refusal> {
     Ok(())
 }
 
-/// Updates the first section of an entry with an identifier: the refusals of opening, 20 and 28, then the new words, and
-/// zeros in the rest of the section's space.
+/// Updates the first section of an entry with an identifier: the refusals of opening, 20 and 28, then the new words,
+/// and zeros in the rest of the section's space.
 pub fn update(file: &mut [u8], u: &Update) -> Result<(), Refusal> {
     let space = section(file, u.entry, u.identifier)?;
     test_content(u, space.length)?;

@@ -23,16 +23,18 @@ use Rattle.promises.proofs.OpenEntries.{OpenEntry, stored, open-shown, 
 -- two files whose validations are known, and an entry whose slot and descriptor stand alike in both
 module _ {f g : List ℕ} {d d′ : DescriptorNumbers} {addresses addresses′ : List RecordNumber} {e : EntryNumber} (p : Validates f d addresses) (q : Validates g d′ addresses′)
     (t : Describes f g d d′ addresses addresses′ e) where
+  -- its open answers the same
   pub opens-alike : openOf g e ≡ openOf f e
   opens-alike = open-numbers g e (sym q) refl ∙ open-there f g d d′ addresses addresses′ e t ∙ sym (open-numbers f e (sym p) refl)
 
+  -- it starts where it started
   pub start-alike : startIn g e ≡ startIn f e
   start-alike = rw (opens-alike, numbers-shown g q, numbers-shown f p, t .reclen)
 
   slot-alike : slotIn g e ≡ slotIn f e
   slot-alike = rw (numbers-shown g q, numbers-shown f p, q, p) (t .slot)
 
-  -- the entry opens as it did, and stands with its slot where it stood
+  -- so it stands in its place, and its slot does
   pub stands-there : InPlace f g e
   unfolding slotBytes
   stands-there = record {

@@ -17,12 +17,12 @@ use Rattle.descriptor.proofs.Answered.{answer-numbers}
 use Rattle.storing.specs.Handed.{Handed, Integers}
 use Rattle.writer.specs.Answers.{appendOf, fileAfter}
 use Rattle.update.specs.Answers.{Update, updateOf, fileAfterUpdate}
+use Rattle.updated.proofs.Rewritten.{update-kept}
 use Rattle.promises.specs.Contents.{entriesOf, Reading, holds, refused, readingOf, contents, InPlace, Unchanged}
 use Rattle.promises.specs.Calls.{update, updated, handedContent, updates, readingAfter, eachFrom}
 use Rattle.promises.specs.Regions.{Sound}
 use Rattle.promises.proofs.Readings.{numbers-shown, length-contents, contents-at}
 use Rattle.promises.proofs.Each.{each-length, each-at, each-twice, each-kept, each-behind}
-use Rattle.promises.proofs.RefusedAnswers.{update-kept}
 use Rattle.promises.proofs.AppendNumbers.{by-answer}
 use Rattle.promises.proofs.AppendAdds.{append-sound, append-stays, append-contents}
 use Rattle.promises.proofs.UpdatedEntries.{update-number, update-entries, update-sound, update-stands, update-stays}

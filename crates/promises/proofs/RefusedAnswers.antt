@@ -1,5 +1,5 @@
 -- A refused call of any kind gives the number and zeros elsewhere, an empty part, and changes no byte; so does a batch where 26 is given. Where one of its appends is
--- refused, those before it are done (Batches). Assumes nothing.
+-- refused, those before it are done (Batches). That a refused update changes no byte is `update-kept` of `updated`. Assumes nothing.
 -- Only creation, append, a batch of appends and an update change a file; the other calls have it lent for reading.
 use Prim.Native.Nat.{ℕ}
 use mathlib.Core.Path.{_≡_, refl}
@@ -34,7 +34,6 @@ use Rattle.writer.specs.Creation.{creationRefusal, createdFile}
 use Rattle.batch.specs.Batch.{Batch}
 use Rattle.batch.specs.Rules.{batchRules, batchRefusal}
 use Rattle.batch.specs.Answers.{batchOf, fileAfterBatch}
-use Rattle.update.specs.Answers.{Update, fileAt, updateOf, fileAfterUpdate}
 use Rattle.outcome.proofs.Either.{either}
 use Rattle.promises.proofs.RefusalMeans.{refusal-among}
 
@@ -108,7 +107,7 @@ pub part-empty : (file : List ℕ) (n : ℕ) → bytesOf file (noPart n) ≡ []
 unfolding part
 part-empty file n = refl
 
--- ---- creation, append, a batch and an update
+-- ---- creation, append and a batch
 
 -- a refused creation changes no byte
 pub create-kept : (file : List ℕ) (settings : Settings) → (creationRefusal (length file) settings ≡ 0 → ⊥) → createdFile file settings ≡ file
@@ -141,8 +140,3 @@ batch-refused file b f = rw (refusal-among (λ n. n ≡ 26) (batchRules b) (omeg
 pub batch-kept : (file : List ℕ) (b : Batch) → (batchRefusal b ≡ 0 → ⊥) → fileAfterBatch file b ≡ file
 unfolding fileAfterBatch
 batch-kept file b f = rw (ne-eqb (batchRefusal b) 0 f)
-
--- a refused update changes no byte
-pub update-kept : (file : List ℕ) (u : Update) → (updateOf file u ≡ 0 → ⊥) → fileAfterUpdate file u ≡ file
-unfolding fileAt
-update-kept file u f = rw (ne-eqb (updateOf file u) 0 f)
