@@ -168,9 +168,6 @@ module _ (file : List ℕ) (u : Update) where
     part-stays : (at n : ℕ) → BesideNamed at n → bytesOf after (wordsFrom at n) ≡ bytesOf file (wordsFrom at n)
     part-stays at n b = let q : 4 * at + 4 * n - 4 * at ≡ 4 * n = omega arith in rw q (words-stay at n b)
 
-    first-stays : part after 0 (4 * d .reclen) ≡ part file 0 (4 * d .reclen)
-    first-stays = words-stay 0 (d .reclen) (inl (omega (arith, first-before)))
-
     order-stays : byteOrderOf after ≡ byteOrderOf file
     order-stays = order-alike after file (words-stay 0 1 (inl (omega (arith, first-before, admits .settled .reclen-low))))
 
@@ -248,12 +245,16 @@ module _ (file : List ℕ) (u : Update) where
 
   -- ---- the file
 
-  -- a file validates after an update, accepted or refused, as before it
+  -- an update, accepted or refused, leaves the first record
+  pub update-first : part after 0 (offsetOf (d .reclen)) ≡ part file 0 (offsetOf (d .reclen))
+  update-first = by-update file u (λ a. words-stay a 0 (d .reclen) (inl (omega (arith, first-before a)))) (ap (λ (f : List ℕ). part f 0 (offsetOf (d .reclen))))
+
+  -- so the file validates after it as before it
   pub update-validates : validationOf after ≡ validationOf file
   update-validates =
       by-update file u
       (λ a.
       let lent = admits a .lent in
       let long = update-length file u in
-      first-alike file after (file-admits a) (first-stays a) (omega arith) (omega (arith, lent .high)) (rw long (lent .whole)) ∙ sym (answer-numbers file (file-admits a)))
+      first-alike file after (file-admits a) update-first (omega arith) (omega (arith, lent .high)) (rw long (lent .whole)) ∙ sym (answer-numbers file (file-admits a)))
       (ap validationOf)
