@@ -100,7 +100,7 @@ update-examples : AllMatch updateExamples
 unfolding updateExamples seen
 update-examples =
     -- Q-3
-    refl & refl & refl & refl & refl & refl & refl & refl & refl & refl & refl &
+    refl & refl & refl & refl & refl & refl & refl & refl & refl & refl &
     refl & refl & refl & refl & refl & refl & refl & refl & refl &
     record {}
 
@@ -124,7 +124,7 @@ leftover-examples : AllMatch leftoverExamples
 unfolding leftoverExamples seen
 leftover-examples =
     -- Q-7
-    refl & refl & refl & refl & refl & refl & refl & refl & refl & refl & refl &
+    refl & refl & refl & refl & refl & refl & refl & refl & refl & refl & refl & refl &
     refl & refl & refl & refl & refl & refl & refl & refl & refl & refl & refl &
     record {}
 

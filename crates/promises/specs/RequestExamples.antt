@@ -28,15 +28,11 @@ use Rattle.promises.specs.ByHand.{wordsAt, word, twoWords, little, big, 
 use Rattle.promises.specs.Examples.{Row, entry, aex, at, identifierFirst, opensAt, filled, numbersRefusal, imageWith}
 use Rattle.promises.specs.Examples.Row.{Q}
 
--- ---- several
+-- ---- for several requests
 
 -- a file with another byte at an offset
 abbrev pub withByte : List ℕ → ℕ → ℕ → List ℕ
 withByte file at byte = splice file at (byte ∷ [])
-
--- a file in which the last byte of word w, counted from the file's start, is 1
-abbrev pub leftIn : ℕ → List ℕ → List ℕ
-leftIn w file = withByte file (4 * w - 1) 1
 
 -- ---- Q-1
 
@@ -176,9 +172,8 @@ updateExamples =
     Q 3 (updateOf A (updateIn (entry 1) (pos 8) (following 230 4))) 20 ∷
     Q 3 (updateOf A (updateIn (entry 1) (pos 8) [])) 20 ∷
     Q 3 (updateOf A (updateIn (entry 2) (pos 7) [])) 20 ∷
-    -- no entry 4: 12; leftovers in the first record: 29
+    -- no entry 4: 12
     Q 3 (updateOf A (updateIn (entry 4) (pos 7) [])) 12 ∷
-    Q 3 (updateOf (leftIn 20 A) (rewriting 0)) 29 ∷
     -- of two sections with the identifier the first is rewritten, and its space is that of the first
     Q 3 (updateOf sevenTwice (rewriting 16)) 28 ∷
     Q 3 (wordsAt (fileAfterUpdate sevenTwice (rewriting 4)) 4 2 4) (following 230 4 ++ zeroWords 2 ++ following 12 4) ∷
@@ -275,6 +270,10 @@ writesExamples =
 
 -- ---- Q-7
 
+-- a file in which the last byte of word w, counted from the file's start, is 1
+abbrev pub leftIn : ℕ → List ℕ → List ℕ
+leftIn w file = withByte file (4 * w - 1) 1
+
 -- a new file of one record
 abbrev pub oneRecord : ℕ → List ℕ
 oneRecord reclen = imageWith (offsetOf reclen) (settings reclen 4 2 20)
@@ -306,6 +305,8 @@ leftoverExamples =
     Q 7 (sectionWordsOf (leftIn 20 A) (entry 1) (pos 7)) (noPart 29) ∷
     Q 7 (appendOf (leftIn 20 (after2 6)) append3) (record { refusal = 29; number = entry 0 }) ∷
     Q 7 (fileAfter (leftIn 20 (after2 6)) append3) (leftIn 20 (after2 6)) ∷
+    -- so does an update, before it looks at its content
+    Q 7 (updateOf (leftIn 20 A) (rewriting 0)) 29 ∷
     -- creation over it is accepted, and its first record is that of a new file
     Q 7 (creationRefusal 480 (settings 20 4 2 20)) 0 ∷
     Q 7 (wordsAt (createdFile (leftIn 20 A) (settings 20 4 2 20)) 1 1 20) (firstRecord little 1 2 1 0 0 0) ∷
