@@ -3,28 +3,21 @@ use Prim.Native.Nat.{ℕ, _≤_}
 use mathlib.Core.Path.{_≡_, ap, _∙_}
 use mathlib.Core.Logic.{inl, inr}
 use mathlib.Core.List.{List}
-use native.Mathlib.Omega.{arith}
-use Rattle.descriptor.specs.FirstRecord.{numbersOf, addressesOf}
-use Rattle.descriptor.proofs.Answered.{file-admitted, answer-numbers}
 use Rattle.order.specs.Order.{allPass, checkOf}
 use Rattle.promises.specs.Contents.{entriesOf, openedIn}
 use Rattle.promises.specs.Calls.{Call, AllFit, run, answers}
 use Rattle.promises.specs.Regions.{Sound}
 use Rattle.promises.specs.Demand.{Start, Promised}
-use Rattle.promises.proofs.OpenEntries.{OpenEntry, open-shown}
+use Rattle.promises.proofs.OpenEntries.{open-shown}
 use Rattle.promises.proofs.OrderSound.{order-sound}
 use Rattle.promises.proofs.OrderAgain.{run-ordered}
-use Rattle.promises.proofs.Making.{entries-shown}
+use Rattle.promises.proofs.Making.{sound-open}
 use Rattle.promises.proofs.Series.{run-contents, run-numbered, run-sound, run-reads, run-stands, run-stays, run-found}
 use Rattle.promises.proofs.CreatedSound.{created-check}
 
--- every entry of a sound file opens
+-- every entry of a sound file answers no refusal
 sound-opens : (file : List ℕ) → Sound file → (e : ℕ) → 1 ≤ e → e ≤ entriesOf file → openedIn file (record { 0 = e }) .refusal ≡ 0
-sound-opens file s e l h =
-    let z = s .admitted in
-    let opens = s .inside .opens e l (omega (arith, entries-shown file s)) in
-    let o : OpenEntry file (numbersOf file) (addressesOf file (numbersOf file .nex)) (record { 0 = e }) = record { shown = answer-numbers file z; admitted = file-admitted file z; opens = opens } in
-    rw (open-shown o)
+sound-opens file s e l h = rw (open-shown (sound-open file s e l h))
 
 -- a file that demand 3 starts from passes the order check
 pub start-ordered : (file : List ℕ) → Start file → checkOf file ≡ allPass

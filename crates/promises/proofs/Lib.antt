@@ -1,4 +1,4 @@
--- The theorems, from the inside out. Demand 3 is stated in Demand3; what a refusal means in RefusalMeans and CheckMeans, and what it leaves in RefusedAnswers; a batch beside single appends in Batches; what an update leaves in Updates, and what it answers in UpdatesAnswered; what any call makes of a file in Making.
+-- The theorems, from the inside out. Demand 3 is stated in Demand3; what a refusal means in RefusalMeans and CheckMeans, and what it leaves in RefusedAnswers; a batch beside single appends in Batches; what an update leaves in Updates, what it answers in UpdatesAnswered, and that a section reads as last updated in LastUpdated; what any call makes of a file in Making.
 pub mod Areas
 pub mod SlotAreas
 pub mod Spread
@@ -34,6 +34,7 @@ pub mod Batches
 pub mod Orders
 pub mod OrderAgain
 pub mod Demand3
+pub mod LastUpdated
 pub mod Leftovers
 pub mod WrittenOnce
 pub mod CheckMeans

@@ -12,8 +12,8 @@ use lib.Seq.{getD-append-add, ext-getD}
 use Rattle.outcome.proofs.Either.{either}
 use Rattle.geometry.specs.declared.units.EntryNumber.{EntryNumber}
 use Rattle.geometry.specs.Units.{entriesBefore}
-use Rattle.descriptor.specs.FirstRecord.{numbersOf}
-use Rattle.descriptor.proofs.Answered.{answer-numbers}
+use Rattle.descriptor.specs.FirstRecord.{numbersOf, addressesOf}
+use Rattle.descriptor.proofs.Answered.{file-admitted, answer-numbers}
 use Rattle.storing.specs.Handed.{Handed, Integers}
 use Rattle.writer.specs.Answers.{appendOf, fileAfter}
 use Rattle.update.specs.Answers.{Update, updateOf, fileAfterUpdate}
@@ -22,6 +22,7 @@ use Rattle.promises.specs.Contents.{entriesOf, Reading, holds, refused, 
 use Rattle.promises.specs.Calls.{update, updated, handedContent, updates, readingAfter, eachFrom}
 use Rattle.promises.specs.Regions.{Sound}
 use Rattle.promises.proofs.Readings.{numbers-shown, length-contents, contents-at}
+use Rattle.promises.proofs.OpenEntries.{OpenEntry}
 use Rattle.promises.proofs.Each.{each-length, each-at, each-twice, each-kept, each-behind}
 use Rattle.promises.proofs.AppendNumbers.{by-answer}
 use Rattle.promises.proofs.AppendAdds.{append-sound, append-stays, append-contents}
@@ -31,6 +32,12 @@ use Rattle.promises.proofs.UpdatedReadings.{update-reads}
 -- the entries of an admitted file
 pub entries-shown : (file : List ℕ) → Sound file → entriesOf file ≡ entriesBefore (numbersOf file .xnext)
 entries-shown file s = rw (numbers-shown file (answer-numbers file (s .admitted)))
+
+-- every entry of a sound file opens
+pub sound-open : (file : List ℕ) → Sound file → (e : ℕ) → 1 ≤ e → e ≤ entriesOf file → OpenEntry file (numbersOf file) (addressesOf file (numbersOf file .nex)) (record { 0 = e })
+sound-open file s e l h =
+    let z = s .admitted in
+    record { shown = answer-numbers file z; admitted = file-admitted file z; opens = s .inside .opens e l (omega (arith, entries-shown file s)) }
 
 -- ---- from file to file
 

@@ -22,7 +22,7 @@ use Rattle.promises.proofs.UpdatedEntries.{shown-before, shown-after, o
 use Rattle.promises.proofs.UpdatedReadings.{open-before, open-after, hands-own, content-after}
 
 -- the first section with another identifier is the one that it was
-first-other : (z w : ℤ) (content : List ℕ) → (z ≡ w → ⊥) → (sections : List Section) → firstWith z (firstRewritten w content sections) ≡ firstWith z sections
+pub first-other : (z w : ℤ) (content : List ℕ) → (z ≡ w → ⊥) → (sections : List Section) → firstWith z (firstRewritten w content sections) ≡ firstWith z sections
 first-other z w content o [] = refl
 first-other z w content o (s ∷ sections) =
     either (sameInteger (s .identifier) w)
