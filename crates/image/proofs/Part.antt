@@ -1,4 +1,4 @@
--- Laws of `part`: its length, a part in two, a part of a part, and reads before, behind and within a write. Assumes nothing.
+-- Laws of `part`: its length, a part in two, a part of a part, and reads before, behind, within and over a write. Assumes nothing.
 use mathlib.Core.Path.{_≡_, refl, ap, _∙_}
 use Prim.Native.Nat.{ℕ, zero, suc, _+_, _-_, _≤_}
 use native.Mathlib.Omega.{arith}
@@ -77,3 +77,26 @@ part-within image at n b ys i e h k =
 pub part-same : (image : List ℕ) (at n : ℕ) (ys : List ℕ) → n ≡ length ys → at + n ≤ length image → part (splice image at ys) at n ≡ ys
 part-same image at n ys e h =
     rw e (part-within image at (length ys) at ys 0 (omega arith) (omega arith) (omega arith) ∙ part-all ys)
+
+-- all but the first bytes of a write behind them
+drop-splice : (image : List ℕ) (a c : ℕ) (ys : List ℕ) → drop a (splice image (a + c) ys) ≡ splice (drop a image) c ys
+unfolding splice
+drop-splice image zero c ys = rw zero-add
+drop-splice [] (suc a) c ys = refl
+drop-splice (x ∷ image) (suc a) c ys = rw suc-add (drop-splice image a c ys)
+
+-- the first bytes of a write
+take-splice : (image : List ℕ) (n c : ℕ) (ys : List ℕ) → take n (splice image c ys) ≡ splice (take n image) c ys
+unfolding splice
+take-splice image zero c ys = refl
+take-splice [] (suc n) c ys = refl
+take-splice (x ∷ image) (suc n) (suc c) ys = ap (λ (l : List ℕ). x ∷ l) (take-splice image n c ys)
+take-splice (x ∷ image) (suc n) zero [] = refl
+take-splice (x ∷ image) (suc n) zero (y ∷ ys) = ap (λ (l : List ℕ). y ∷ l) (take-splice image n zero ys)
+
+-- a read that starts before a write sees the write over what it would read without it
+pub part-splice : (image : List ℕ) (a n b : ℕ) (ys : List ℕ) → a ≤ b → part (splice image b ys) a n ≡ splice (part image a n) (b - a) ys
+unfolding part
+part-splice image a n b ys l =
+    let e : b ≡ a + (b - a) = omega arith in
+    ap (λ (k : ℕ). take n (drop a (splice image k ys))) e ∙ ap (take n) (drop-splice image a (b - a) ys) ∙ take-splice (drop a image) n (b - a) ys

@@ -13,7 +13,7 @@ use Rattle.entry.specs.Answers.{openOf}
 use Rattle.entry.proofs.Entering.{entered-numbers}
 use Rattle.entry.proofs.Opened.{open-numbers}
 use Rattle.handing.specs.Parts.{partIn, pieceFrom, bytesOf}
-use Rattle.alike.proofs.Described.{Describes, open-there}
+use Rattle.alike.proofs.Described.{Describes, open-there, section-place}
 use Rattle.alike.proofs.Agreeing.{Agrees, index-there, piece-there, data-part-there}
 use Rattle.descriptor.specs.Answers.{Validates}
 use Rattle.promises.specs.Contents.{openedIn, startIn, pieceAt, readingOf, slotIn, slotBytes, entryBytes, InPlace, Unchanged}
@@ -34,12 +34,13 @@ module _ {f g : List ℕ} {d d′ : DescriptorNumbers} {addresses addresses′ :
   slot-alike : slotIn g e ≡ slotIn f e
   slot-alike = rw (numbers-shown g q, numbers-shown f p, q, p) (t .slot)
 
-  -- so it stands in its place, and its slot does
+  -- so it stands in its place, with its sections and its slot
   pub stands-there : InPlace f g e
-  unfolding slotBytes
+  unfolding slotBytes partIn
   stands-there = record {
     opened = opens-alike;
     started = start-alike;
+    placed = λ z. rw (q, p) (section-place f g d d′ addresses addresses′ e t z);
     slotted = slot-alike;
     slot = rw (slot-alike, numbers-shown g q, numbers-shown f p, t .lind, p) (t .index);
   }

@@ -68,18 +68,18 @@ one-more [] n file = rw add-one
 one-more (h ∷ hs) n file = either (eqb (appendOf file h .refusal) 0) (λ q. rw q (one-more hs (n + 1) (fileAfter file h))) (λ q. rw (q, add-one))
 
 -- they add the first entries, as many as the answer says
-turns-make : {Same : ℕ → Type 0} (hs : List Handed) → AllIntegers hs → (file : List ℕ) → Sound file
-    → Makes file (fileInTurn file hs) (λ k r. r) Same (map (λ h. holds (handedContent h)) (take (answerInTurn 0 file hs .accepted) hs))
+turns-make : (hs : List Handed) → AllIntegers hs → (file : List ℕ) → Sound file
+    → Makes file (fileInTurn file hs) (λ k r. r) (λ e words. words) (map (λ h. holds (handedContent h)) (take (answerInTurn 0 file hs .accepted) hs))
 turns-make [] g file s = makes-none file s
-turns-make {Same} (h ∷ hs) g file s =
+turns-make (h ∷ hs) g file s =
     let next = fileAfter file h in
-    let first = append-makes {Same = Same} file s h (g .0) in
+    let first = append-makes file s h (g .0) in
     either (eqb (appendOf file h .refusal) 0)
-    (λ q. rw (q, one-more hs 0 next) (makes-on (rw q at first) (turns-make {Same = Same} hs (g .1) next (first .sound)) (λ e same. (same, same))))
+    (λ q. rw (q, one-more hs 0 next) (makes-on (rw q at first) (turns-make hs (g .1) next (first .sound))))
     (λ q. rw q (makes-none file s))
 
 -- and so does a batch
-pub batch-makes : {Same : ℕ → Type 0} (file : List ℕ) → Sound file → (b : Batch) → IntegersIn b
-    → Makes file (fileAfterBatch file b) (λ k r. r) Same (added (batch b) (batched (batchOf file b)))
+pub batch-makes : (file : List ℕ) → Sound file → (b : Batch) → IntegersIn b
+    → Makes file (fileAfterBatch file b) (λ k r. r) (λ e words. words) (added (batch b) (batched (batchOf file b)))
 unfolding batchOf fileAfterBatch
 batch-makes file s b g = either (eqb (batchRefusal b) 0) (λ q. rw q (turns-make (entriesIn b) (entries-fit b g) file s)) (λ q. rw q (makes-none file s))

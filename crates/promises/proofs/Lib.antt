@@ -25,6 +25,7 @@ pub mod CreateBytes
 pub mod AppendBytes
 pub mod UpdatedEntries
 pub mod UpdatedReadings
+pub mod UpdatedWords
 pub mod Updates
 pub mod UpdatesAnswered
 pub mod Making

@@ -2,7 +2,7 @@
 -- entries stand where they stood, all but an updated one unchanged. So does one call after another, and so do an append and an update. Assumes nothing.
 use Prim.Native.Nat.{ℕ, zero, suc, _+_, _≤_, _<_}
 use mathlib.Core.Path.{_≡_, refl, sym, ap, _∙_}
-use mathlib.Core.Bool.{false, cond}
+use mathlib.Core.Bool.{cond}
 use mathlib.Core.List.{List, [], _∷_, _++_, append-assoc, append-nil}
 use native.Mathlib.Omega.{arith}
 use borrow.Author.Tests.{eqb-true, eqb-false, ne-eqb}
@@ -18,16 +18,17 @@ use Rattle.storing.specs.Handed.{Handed, Integers}
 use Rattle.writer.specs.Answers.{appendOf, fileAfter}
 use Rattle.update.specs.Answers.{Update, updateOf, fileAfterUpdate}
 use Rattle.updated.proofs.Rewritten.{update-kept}
-use Rattle.promises.specs.Contents.{entriesOf, Reading, holds, refused, readingOf, contents, InPlace, Unchanged}
-use Rattle.promises.specs.Calls.{update, updated, handedContent, updates, readingAfter, eachFrom}
+use Rattle.promises.specs.Contents.{entriesOf, Reading, holds, refused, readingOf, contents, entryBytes, InPlace, Unchanged}
+use Rattle.promises.specs.Calls.{update, updated, handedContent, readingAfter, wordsAfter, eachFrom}
 use Rattle.promises.specs.Regions.{Sound}
 use Rattle.promises.proofs.Readings.{numbers-shown, length-contents, contents-at}
 use Rattle.promises.proofs.OpenEntries.{OpenEntry}
 use Rattle.promises.proofs.Each.{each-length, each-at, each-twice, each-kept, each-behind}
 use Rattle.promises.proofs.AppendNumbers.{by-answer}
 use Rattle.promises.proofs.AppendAdds.{append-sound, append-stays, append-contents}
-use Rattle.promises.proofs.UpdatedEntries.{update-number, update-entries, update-sound, update-stands, update-stays}
+use Rattle.promises.proofs.UpdatedEntries.{update-number, update-entries, update-sound, update-stands}
 use Rattle.promises.proofs.UpdatedReadings.{update-reads}
+use Rattle.promises.proofs.UpdatedWords.{update-words}
 
 -- the entries of an admitted file
 pub entries-shown : (file : List ℕ) → Sound file → entriesOf file ≡ entriesBefore (numbersOf file .xnext)
@@ -43,41 +44,43 @@ sound-open file s e l h =
 
 -- an entry that stands where it stood
 stands-on : {f g h : List ℕ} {e : EntryNumber} → InPlace f g e → InPlace g h e → InPlace f h e
-stands-on p q = record { opened = q .opened ∙ p .opened; started = q .started ∙ p .started; slotted = q .slotted ∙ p .slotted; slot = q .slot ∙ p .slot }
-
--- and one that is unchanged
-unchanged-on : {f g h : List ℕ} {e : EntryNumber} → Unchanged f g e → Unchanged g h e → Unchanged f h e
-unchanged-on p q = record { place = stands-on (p .place) (q .place); words = q .words ∙ p .words }
+stands-on p q = record {
+  opened = q .opened ∙ p .opened;
+  started = q .started ∙ p .started;
+  placed = λ z. q .placed z ∙ p .placed z;
+  slotted = q .slotted ∙ p .slotted;
+  slot = q .slot ∙ p .slot;
+}
 
 -- ---- what is made of a file
 
--- one file is sound, has what f makes of another's contents with more behind them, has each of its entries where it stood, and unchanged each of which Same is said
-pub record Makes (before after : List ℕ) (f : ℕ → Reading → Reading) (Same : ℕ → Type 0) (more : List Reading) : Type 0 where
+-- one file is sound, has what f makes of another's contents with more behind them, and has each of its entries where it stood, with what w makes of its words
+pub record Makes (before after : List ℕ) (f : ℕ → Reading → Reading) (w : ℕ → List ℕ → List ℕ) (more : List Reading) : Type 0 where
   pub sound : Sound after
   pub kept : contents after ≡ eachFrom 1 f (contents before ++ more)
   -- f leaves every number that is not there yet
   pub behind : (k : ℕ) → entriesOf after < k → (r : Reading) → f k r ≡ r
   pub stands : (e : ℕ) → 1 ≤ e → e ≤ entriesOf before → InPlace before after (record { 0 = e })
-  pub stays : (e : ℕ) → 1 ≤ e → e ≤ entriesOf before → Same e → Unchanged before after (record { 0 = e })
+  pub stays : (e : ℕ) → 1 ≤ e → e ≤ entriesOf before → entryBytes after (record { 0 = e }) ≡ w e (entryBytes before (record { 0 = e }))
 
 -- so has one to which more is added, with every entry as it was
-makes-more : {before after : List ℕ} {Same : ℕ → Type 0} {more : List Reading} → Sound after → contents after ≡ contents before ++ more
-    → ((e : ℕ) → 1 ≤ e → e ≤ entriesOf before → Unchanged before after (record { 0 = e })) → Makes before after (λ k r. r) Same more
+makes-more : {before after : List ℕ} {more : List Reading} → Sound after → contents after ≡ contents before ++ more
+    → ((e : ℕ) → 1 ≤ e → e ≤ entriesOf before → Unchanged before after (record { 0 = e })) → Makes before after (λ k r. r) (λ e words. words) more
 makes-more {before} {more} sound kept stays = record {
   sound = sound;
   kept = kept ∙ sym (each-kept (λ k r. r) 1 (contents before ++ more) (λ i l r. refl));
   behind = λ k l r. refl;
   stands = λ e l m. stays e l m .place;
-  stays = λ e l m same. stays e l m;
+  stays = λ e l m. stays e l m .words;
 }
 
 -- and a sound file itself, with nothing more
-pub makes-none : {Same : ℕ → Type 0} (file : List ℕ) → Sound file → Makes file file (λ k r. r) Same []
+pub makes-none : (file : List ℕ) → Sound file → Makes file file (λ k r. r) (λ e words. words) []
 makes-none file s =
     makes-more s (sym (append-nil (contents file)))
-    (λ e l m. record { place = record { opened = refl; started = refl; slotted = refl; slot = refl }; words = refl })
+    (λ e l m. record { place = record { opened = refl; started = refl; placed = λ z. refl; slotted = refl; slot = refl }; words = refl })
 
-module _ {before after : List ℕ} {f : ℕ → Reading → Reading} {Same : ℕ → Type 0} {more : List Reading} (made : Makes before after f Same more) where
+module _ {before after : List ℕ} {f : ℕ → Reading → Reading} {w : ℕ → List ℕ → List ℕ} {more : List Reading} (made : Makes before after f w more) where
   -- it has as many entries more
   pub makes-count : entriesOf after ≡ entriesOf before + length more
   makes-count =
@@ -105,10 +108,10 @@ module _ {before after : List ℕ} {f : ℕ → Reading → Reading} {Same : ℕ
       let at : entriesOf before + k + 1 ≡ suc there = omega (arith, length-contents before) in
       rw at (makes-at there (omega (arith, makes-count, length-contents before)) ∙ ap (f (suc there)) (getD-append-add (contents before) more k (refused 0)))
 
--- what is made of what was made: f and then g of each, and what is added stands behind what was
-pub makes-on : {one two three : List ℕ} {f g : ℕ → Reading → Reading} {P Q Same : ℕ → Type 0} {first others : List Reading}
-    → Makes one two f P first → Makes two three g Q others → ((e : ℕ) → Same e → P e × Q e) → Makes one three (λ k r. g k (f k r)) Same (first ++ others)
-makes-on {one} {f} {g} {first} {others} p q same =
+-- what is made of what was made: f and then g of each, v and then w of its words, and what is added stands behind what was
+pub makes-on : {one two three : List ℕ} {f g : ℕ → Reading → Reading} {v w : ℕ → List ℕ → List ℕ} {first others : List Reading}
+    → Makes one two f v first → Makes two three g w others → Makes one three (λ k r. g k (f k r)) (λ e words. w e (v e words)) (first ++ others)
+makes-on {one} {f} {g} {w} {first} {others} p q =
     let there = contents one ++ first in
     record {
       sound = q .sound;
@@ -120,14 +123,14 @@ makes-on {one} {f} {g} {first} {others} p q same =
           ∙ ap (eachFrom 1 (λ k r. g k (f k r))) (append-assoc (contents one) first others);
       behind = λ k l r. ap (g k) (p .behind k (omega (arith, makes-count q)) r) ∙ q .behind k l r;
       stands = λ e l m. stands-on (p .stands e l m) (q .stands e l (omega (arith, makes-count p)));
-      stays = λ e l m s. unchanged-on (p .stays e l m (same e s .0)) (q .stays e l (omega (arith, makes-count p)) (same e s .1));
+      stays = λ e l m. q .stays e l (omega (arith, makes-count p)) ∙ ap (w e) (p .stays e l m);
     }
 
 -- ---- an append
 
 -- it adds what was handed in where it is accepted, and nothing where it is refused
-pub append-makes : {Same : ℕ → Type 0} (file : List ℕ) → Sound file → (h : Handed) → Integers h
-    → Makes file (fileAfter file h) (λ k r. r) Same (cond (eqb (appendOf file h .refusal) 0) (holds (handedContent h) ∷ []) [])
+pub append-makes : (file : List ℕ) → Sound file → (h : Handed) → Integers h
+    → Makes file (fileAfter file h) (λ k r. r) (λ e words. words) (cond (eqb (appendOf file h .refusal) 0) (holds (handedContent h) ∷ []) [])
 append-makes file s h g =
     by-answer file h (s .admitted)
     (λ a q. rw q (makes-more (append-sound file h g s a) (append-contents file h g s a) (λ e l m. append-stays file h g s a e l (omega (arith, entries-shown file s)))))
@@ -156,7 +159,7 @@ updated-contents file s u z =
 
 -- it updates the entry that it names where it is accepted, and nothing where it is refused
 pub update-makes : (file : List ℕ) → Sound file → (u : Update) → let a = updated (updateOf file u) in
-    Makes file (fileAfterUpdate file u) (λ k r. readingAfter (update u) a k r) (λ e. updates (update u) a e ≡ false) []
+    Makes file (fileAfterUpdate file u) (λ k r. readingAfter (update u) a k r) (λ e words. wordsAfter file (update u) a e words) []
 update-makes file s u =
     either (eqb (updateOf file u) 0)
     (λ q.
@@ -166,6 +169,6 @@ update-makes file s u =
       kept = updated-contents file s u z;
       behind = λ k l r. rw (ne-eqb (u .number .0) k (omega (arith, update-number file u z, update-entries file u)));
       stands = update-stands file u s z;
-      stays = update-stays file u s z;
+      stays = update-words file u s z;
     }))
     (λ q. rw (update-kept file u (eqb-false (updateOf file u) 0 q), q) (makes-none file s))

@@ -1,16 +1,18 @@
 -- Demand 3. From a sound file, after any series of calls, accepted or refused: going through the numbers gives the starting entries and then every accepted one,
--- once, in order, each section as last updated; every starting entry stands where it stood, and is unchanged where no update of it was accepted; the k-th accepted entry
+-- once, in order, each section as last updated; every starting entry stands where it stood, and its words stay but for its updates; the k-th accepted entry
 -- has number n + k, which is what its append answers; and the file is sound again. Assumes nothing.
 use Prim.Native.Nat.{ℕ, _+_, _≤_, _<_}
 use mathlib.Core.Path.{_≡_, refl, sym, ap, _∙_}
-use mathlib.Core.Bool.{false}
 use mathlib.Core.List.{List, [], _∷_}
 use native.Mathlib.Omega.{arith}
+use borrow.Author.Tests.{eqb-true}
+use lib.Dec.{eqb}
 use lib.ListN.{length, getD}
+use Rattle.outcome.proofs.Either.{either}
 use Rattle.geometry.specs.declared.units.EntryNumber.{EntryNumber}
 use Rattle.descriptor.proofs.Answered.{file-admitted}
-use Rattle.promises.specs.Contents.{entriesOf, Reading, refused, readingOf, contents, InPlace, Unchanged}
-use Rattle.promises.specs.Calls.{Call, append, batch, update, Fits, AllFit, answerOf, afterCall, run, answers, added, accepted, updates, readingAfter, readingAfterAll, NoneUpdates, contentsAfter, contentsAfterAll, NumberedNext, AllNumbered}
+use Rattle.promises.specs.Contents.{entriesOf, Reading, refused, readingOf, contents, entryBytes, InPlace}
+use Rattle.promises.specs.Calls.{Call, append, batch, update, Fits, AllFit, Answer, refusalOf, answerOf, afterCall, run, answers, added, accepted, readingAfter, readingAfterAll, wordsAfter, wordsAfterAll, contentsAfter, contentsAfterAll, NumberedNext, AllNumbered}
 use Rattle.promises.specs.Regions.{Sound}
 use Rattle.promises.proofs.Readings.{length-contents}
 use Rattle.promises.proofs.Each.{each-behind}
@@ -22,7 +24,7 @@ use Rattle.promises.proofs.InTurn.{batch-makes}
 
 -- it makes of a sound file what its answer says
 pub call-makes : (file : List ℕ) → Sound file → (c : Call) → Fits c
-    → Makes file (afterCall file c) (readingAfter c (answerOf file c)) (λ e. updates c (answerOf file c) e ≡ false) (added c (answerOf file c))
+    → Makes file (afterCall file c) (readingAfter c (answerOf file c)) (wordsAfter file c (answerOf file c)) (added c (answerOf file c))
 call-makes file s (append h) g = append-makes file s h g
 call-makes file s (batch b) g = batch-makes file s b g
 call-makes file s (update u) g = update-makes file s u
@@ -49,11 +51,39 @@ call-numbered file s (update u) = tt
 
 -- ---- a series
 
--- so does a series, call by call
+-- what a call makes of the words of an entry is the same for two files in which it stands alike
+words-alike : {f g : List ℕ} {e : ℕ} → InPlace f g (record { 0 = e }) → (c : Call) (a : Answer) (words : List ℕ) → wordsAfter g c a e words ≡ wordsAfter f c a e words
+words-alike t (append h) a words = refl
+words-alike t (batch b) a words = refl
+words-alike {f} {g} {e} t (update u) a words =
+    either (eqb (refusalOf a) 0)
+    (λ p. either (eqb (u .number .0) e)
+    (λ q. rw (p, q, eqb-true (u .number .0) e q, t .placed (u .identifier), t .started))
+    (λ q. rw (p, q)))
+    (λ p. rw p)
+
+-- so it is for a series
+all-alike : {f g : List ℕ} {e : ℕ} → InPlace f g (record { 0 = e }) → (calls : List Call) (given : List Answer) (words : List ℕ)
+    → wordsAfterAll g calls given e words ≡ wordsAfterAll f calls given e words
+all-alike t [] given words = refl
+all-alike t (c ∷ cs) [] words = refl
+all-alike {f} {g} {e} t (c ∷ cs) (a ∷ given) words = ap (wordsAfterAll g cs given e) (words-alike t c a words) ∙ all-alike t cs given (wordsAfter f c a e words)
+
+-- a series makes of a sound file what its answers say, call by call
 run-makes : (calls : List Call) → AllFit calls → (file : List ℕ) → Sound file → let given = answers calls file in
-    Makes file (run calls file) (readingAfterAll calls given) (NoneUpdates calls given) (accepted calls given)
+    Makes file (run calls file) (readingAfterAll calls given) (wordsAfterAll file calls given) (accepted calls given)
 run-makes [] g file s = makes-none file s
-run-makes (c ∷ cs) g file s = let first = call-makes file s c (g .0) in makes-on first (run-makes cs (g .1) (afterCall file c) (first .sound)) (λ e same. same)
+run-makes (c ∷ cs) g file s =
+    let next = afterCall file c in
+    let first = call-makes file s c (g .0) in
+    let made = makes-on first (run-makes cs (g .1) next (first .sound)) in
+    record {
+      sound = made .sound;
+      kept = made .kept;
+      behind = made .behind;
+      stands = made .stands;
+      stays = λ e l m. made .stays e l m ∙ all-alike (first .stands e l m) cs (answers cs next) (wordsAfter file c (answerOf file c) e (entryBytes file (record { 0 = e })));
+    }
 
 -- the contents are what the calls leave, one after the other
 pub run-contents : (calls : List Call) → AllFit calls → (file : List ℕ) → Sound file → contents (run calls file) ≡ contentsAfterAll calls (answers calls file) (contents file)
@@ -87,8 +117,8 @@ module _ (calls : List Call) (g : AllFit calls) (file : List ℕ) (s : Sound fil
   pub run-stands : (e : ℕ) → 1 ≤ e → e ≤ entriesOf file → InPlace file (run calls file) (record { 0 = e })
   run-stands = run-makes calls g file s .stands
 
-  -- and is unchanged where no update of it was accepted
-  pub run-stays : (e : ℕ) → 1 ≤ e → e ≤ entriesOf file → NoneUpdates calls (answers calls file) e → Unchanged file (run calls file) (record { 0 = e })
+  -- and all its words are as they were, but for the sections that accepted updates of it rewrote
+  pub run-stays : (e : ℕ) → 1 ≤ e → e ≤ entriesOf file → entryBytes (run calls file) (record { 0 = e }) ≡ wordsAfterAll file calls (answers calls file) e (entryBytes file (record { 0 = e }))
   run-stays = run-makes calls g file s .stays
 
   -- the k-th accepted entry has number n + k, and reads as handed in, with the accepted updates of it

@@ -1,11 +1,12 @@
 -- A series of calls that change a file: what they answer, what they leave in the file, and what they leave of its contents.
-use Prim.Native.Nat.{ℕ, zero, suc, _+_}
+use Prim.Native.Nat.{ℕ, zero, suc, _+_, _-_}
 use mathlib.Core.Path.{_≡_}
 use mathlib.Core.Bool.{Bool, false, cond, _&&_}
 use mathlib.Core.List.{List, [], _∷_, _++_, map}
 use lib.Dec.{eqb}
 use lib.IntN.{ℤ}
 use lib.ListN.{length, take, drop}
+use Rattle.image.specs.Image.{splice}
 use Rattle.geometry.specs.Units.{offsetOf}
 use Rattle.pieces.specs.Tables.{sameInteger}
 use Rattle.writer.specs.declared.appending.Appended.{Appended}
@@ -14,8 +15,8 @@ use Rattle.writer.specs.Answers.{appendOf, fileAfter}
 use Rattle.batch.specs.declared.batching.Batched.{Batched}
 use Rattle.batch.specs.Batch.{Batch, IntegersIn, entriesIn}
 use Rattle.batch.specs.Answers.{batchOf, fileAfterBatch}
-use Rattle.update.specs.Answers.{Update, padded, updateOf, fileAfterUpdate}
-use Rattle.promises.specs.Contents.{Section, Content, Reading, holds, refused}
+use Rattle.update.specs.Answers.{Update, spaceOf, padded, placeNamed, updateOf, fileAfterUpdate}
+use Rattle.promises.specs.Contents.{startIn, Section, Content, Reading, holds, refused}
 
 -- a call with all that is handed in: an append, a batch of them, or an update of a section
 pub data Call : Type 0 where
@@ -149,11 +150,23 @@ readingAfterAll [] given k r = r
 readingAfterAll (c ∷ cs) [] k r = r
 readingAfterAll (c ∷ cs) (a ∷ given) k r = readingAfterAll cs given k (readingAfter c a k r)
 
--- no call of a series is an accepted update of the entry with number k
-abbrev pub NoneUpdates : List Call → List Answer → ℕ → Type 0
-NoneUpdates [] given k = Unit
-NoneUpdates (c ∷ cs) [] k = Unit
-NoneUpdates (c ∷ cs) (a ∷ given) k = (updates c a k ≡ false) × NoneUpdates cs given k
+-- the bytes of an entry's words after a call that updates it: the section is rewritten where it stands in a file
+abbrev pub wordsBy : List ℕ → Call → List ℕ → List ℕ
+wordsBy file (append h) words = words
+wordsBy file (batch b) words = words
+wordsBy file (update u) words =
+    let p = placeNamed file u in
+    splice words (p .start - offsetOf (startIn file (u .number))) (padded (u .content) (spaceOf p))
+
+-- and after any call with an answer, of the entry with number k
+abbrev pub wordsAfter : List ℕ → Call → Answer → ℕ → List ℕ → List ℕ
+wordsAfter file c a k words = cond (updates c a k) (wordsBy file c words) words
+
+-- and after a series, call by call
+abbrev pub wordsAfterAll : List ℕ → List Call → List Answer → ℕ → List ℕ → List ℕ
+wordsAfterAll file [] given k words = words
+wordsAfterAll file (c ∷ cs) [] k words = words
+wordsAfterAll file (c ∷ cs) (a ∷ given) k words = wordsAfterAll file cs given k (wordsAfter file c a k words)
 
 -- ---- what is left, by arguments and answers alone
 

@@ -123,10 +123,11 @@ slotBytes file e = part file (offsetOf (slotIn file e)) (offsetOf (numbersIn fil
 unfoldable pub entryBytes : List ℕ → EntryNumber → List ℕ
 entryBytes file e = part file (offsetOf (startIn file e)) (offsetOf (openedIn file e .nword))
 
--- an entry stands in one file as it does in another: its open answers the same, it and its slot stand where they stood, and its slot has the same bytes
+-- an entry stands in one file as it does in another: its open answers the same, it, its sections and its slot stand where they stood, and its slot has the same bytes
 pub record InPlace (before after : List ℕ) (e : EntryNumber) : Type 0 where
   pub opened : openOf after e ≡ openOf before e
   pub started : startIn after e ≡ startIn before e
+  pub placed : (z : ℤ) → sectionWordsOf after e z ≡ sectionWordsOf before e z
   pub slotted : slotIn after e ≡ slotIn before e
   pub slot : slotBytes after e ≡ slotBytes before e
 

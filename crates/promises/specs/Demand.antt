@@ -8,8 +8,8 @@ use Rattle.descriptor.specs.declared.numbers.Settings.{Settings}
 use Rattle.descriptor.specs.FirstRecord.{numbersOf, addressesOf}
 use Rattle.order.specs.Order.{allPass, checkOf}
 use Rattle.writer.specs.Creation.{creationRefusal, createdFile}
-use Rattle.promises.specs.Contents.{entriesOf, openedIn, refused, readingOf, contents, InPlace, Unchanged}
-use Rattle.promises.specs.Calls.{Call, Answer, accepted, readingAfterAll, NoneUpdates, contentsAfterAll, AllNumbered}
+use Rattle.promises.specs.Contents.{entriesOf, openedIn, refused, readingOf, contents, entryBytes, InPlace}
+use Rattle.promises.specs.Calls.{Call, Answer, accepted, readingAfterAll, wordsAfterAll, contentsAfterAll, AllNumbered}
 use Rattle.promises.specs.Regions.{NoneShared}
 
 -- a file that an accepted creation made
@@ -29,10 +29,10 @@ pub record Promised (calls : List Call) (given : List Answer) (before after : Li
   pub kept : contents after ≡ contentsAfterAll calls given (contents before)
   -- a starting entry reads as before, with the accepted updates of it
   pub reads : (e : ℕ) → 1 ≤ e → e ≤ entriesOf before → readingOf after (record { 0 = e }) ≡ readingAfterAll calls given e (readingOf before (record { 0 = e }))
-  -- it opens as it did, and it and its slot stand where they stood
+  -- it opens as it did, and it, its sections and its slot stand where they stood
   pub stands : (e : ℕ) → 1 ≤ e → e ≤ entriesOf before → InPlace before after (record { 0 = e })
-  -- and where there was no accepted update of it, it is as it was, all its words and its slot
-  pub stays : (e : ℕ) → 1 ≤ e → e ≤ entriesOf before → NoneUpdates calls given e → Unchanged before after (record { 0 = e })
+  -- and all its words are as they were, but for the sections that accepted updates of it rewrote
+  pub stays : (e : ℕ) → 1 ≤ e → e ≤ entriesOf before → entryBytes after (record { 0 = e }) ≡ wordsAfterAll before calls given e (entryBytes before (record { 0 = e }))
   -- the k-th accepted entry has number n + k, and reads as handed in, with the accepted updates of it
   pub found : (k : ℕ) → k < length (accepted calls given) → let e = entriesOf before + k + 1 in
       readingOf after (record { 0 = e }) ≡ readingAfterAll calls given e (getD (accepted calls given) k (refused 0))

@@ -47,7 +47,8 @@ module _ (file : List ℕ) (u : Update) where
     pub place-given : place .refusal ≡ 0
     place-given = elim (ℕ-discrete (place .refusal) 0) [ yes z ↦ z | no f ↦ absurd (f (sym (place-first place (u .content) f) ∙ accepted)) ]
 
-    one-write : fileAfterUpdate file u ≡ splice file (place .start) new
+    -- an accepted one is one write over the section's space
+    pub one-write : fileAfterUpdate file u ≡ splice file (place .start) new
     one-write = sym (not-refused place (u .content) file accepted .1)
 
     length-new : length new ≡ space
