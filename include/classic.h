@@ -51,10 +51,12 @@ extern "C" {
    Every buffer belongs to the caller, is used during the call only, and is never kept or freed. A call reads and
    writes within the given counts only. What is passed as const is not changed; create, append and update change the
    file when they accept, and no byte of it when they refuse; append_batch changes it by the entries that it accepts,
-   and by no other byte. The buffers of one call must not overlap: append's file, index words, identifiers, lengths,
-   section bytes and data are apart, so are append_batch's, with versions and counts, and so are update's file and
-   content. The file and byte buffers need no alignment; versions, counts, ids and lengths are aligned as their types
-   are. An empty buffer may be (NULL, 0). Calls that only read may share a file between threads.
+   and by no other byte. append_to, append_batch_to and update_to change the file as append, append_batch and update do,
+   and with it the record that is lent to them. The buffers of one call must not overlap: append's file, index words,
+   identifiers, lengths, section bytes and data are apart, so are append_batch's, with versions and counts, and so are
+   update's file and content; a record is apart from them all. The file and byte buffers need no alignment; versions,
+   counts, ids, lengths and a record are aligned as their types are. An empty buffer may be (NULL, 0). Calls that only
+   read may share a file between threads.
 
    Answers are given by value and belong to the caller. A part is a place in the lent file, not a copy: its bytes are
    file + start to file + start + length, as long as the file is lent and unchanged. Each answer has a refusal, 0
@@ -65,11 +67,14 @@ extern "C" {
    applies. Every call but create tests 1 to 11 and then 29; create tests 1 to 8 on its settings. extension_of adds 12;
    open, index_words and data add 12 to 19, section adds 20 to these, and update 28 to those of section; append adds 21
    to 24; check adds 13 to 19 for each entry, and 25. append_batch tests 26 before all others, and then as append does
-   for each entry in turn. */
+   for each entry in turn. append_to, append_batch_to and update_to test 27 in the place of 1 to 11 and 29, once, after
+   26. */
 enum classic_refusal {
     CLASSIC_ACCEPTED = 0,        /* no refusal */
     CLASSIC_BATCH_COUNTS = 26,   /* append_batch: over 64 entries, rows of counts and versions not as many, or a column
                                     of the counts that does not use up its array exactly */
+    CLASSIC_OPEN_FILE = 27,      /* append_to, append_batch_to, update_to: the record that is lent is not the one that
+                                    open_file_of gives for the file as it is, or the file is refused */
     CLASSIC_LENT_SHORT = 1,      /* fewer than 64 bytes are lent */
     CLASSIC_FILE_CODE = 2,       /* the file code is neither "2A  " nor "2B  "; create: the order is neither 0 nor 1 */
     CLASSIC_RECLEN = 3,          /* reclen is not 16 to 4,096 */
@@ -158,6 +163,19 @@ typedef struct {
     uint64_t accepted;
 } classic_batched;
 
+/* The record of an open file: what validate gives, with its order a classic_order and aex zero past nex; and totals, the
+   entries that the first k extensions hold together, for k 1 to nex, zero past nex. All is worked out from the file's
+   first record: a record holds nothing that the file does not, and is no handle. */
+typedef struct {
+    uint64_t order, reclen, kind, vind, lind, flags, xnext, nextrec, nextword, lex1, nex, gex, aex[16], totals[16];
+} classic_open_file;
+
+/* The record that a file has. */
+typedef struct {
+    uint32_t refusal;
+    classic_open_file file;
+} classic_open_file_answer;
+
 /* An order check: 0 and 0 when all is in order; else the first failing entry and its refusal, with entry 0 where the
    descriptor is refused. */
 typedef struct {
@@ -225,6 +243,35 @@ classic_batched classic_append_batch(uint8_t *file, size_t bytes,
    are written also where another entry shares them; in a file that passes check none does. */
 uint32_t classic_update(uint8_t *file, size_t bytes, uint64_t entry, int32_t identifier,
                         const uint8_t *content, size_t content_bytes);
+
+/* Gives the record of the open file, which the three calls below take and keep true. */
+classic_open_file_answer classic_open_file_of(const uint8_t *file, size_t bytes);
+
+/* Appends an entry through a record: answers what append does and leaves the file as it does, and the record is then
+   that of the file as it is, also where the entry is refused. Each field of the record is compared with the file first:
+   where one differs, because the file was changed without the record or the record by hand, the call is refused by 27,
+   and record and file stay. open_file_of then gives a true one. */
+classic_appended classic_append_to(classic_open_file *held, uint8_t *file, size_t bytes, int32_t version,
+                                   const uint8_t *index, size_t index_bytes,
+                                   const int32_t *ids, size_t id_count,
+                                   const int64_t *lengths, size_t length_count,
+                                   const uint8_t *sections, size_t section_bytes,
+                                   const uint8_t *data, size_t data_bytes);
+
+/* Appends a batch through a record, as append_batch does. Behind 26 a record that is not true is refused, also with no
+   entries. */
+classic_batched classic_append_batch_to(classic_open_file *held, uint8_t *file, size_t bytes,
+                                        const int32_t *versions, size_t version_count,
+                                        const uint64_t (*counts)[5], size_t count_rows,
+                                        const uint8_t *index, size_t index_bytes,
+                                        const int32_t *ids, size_t id_count,
+                                        const int64_t *lengths, size_t length_count,
+                                        const uint8_t *sections, size_t section_bytes,
+                                        const uint8_t *data, size_t data_bytes);
+
+/* Rewrites a section through a record, as update does. */
+uint32_t classic_update_to(classic_open_file *held, uint8_t *file, size_t bytes, uint64_t entry, int32_t identifier,
+                           const uint8_t *content, size_t content_bytes);
 
 #ifdef __cplusplus
 }

@@ -18,7 +18,7 @@ fn settings(random: &mut Random, order: Order) -> Settings {
 }
 
 /// The records that some entries take with the index areas of a file of so many entries all in all.
-fn records_for(s: &Settings, entries: &[Addition], all: usize) -> usize {
+pub fn records_for(s: &Settings, entries: &[Addition], all: usize) -> usize {
     let words = |a: &Addition| 11 + 5 * a.ids.len() + a.sections.len() / 4 + a.data.len() / 4;
     let content: usize = entries.iter().map(words).sum();
     let areas: Vec<usize> = (1..=16).take_while(|&k| together(s, k - 1) < all).map(|k| area_words(s, k)).collect();
@@ -26,14 +26,14 @@ fn records_for(s: &Settings, entries: &[Addition], all: usize) -> usize {
 }
 
 /// Lends a file without entries that has so many records more than the first, and creates it.
-fn lend_created(random: &mut Random, script: &mut Script, s: &Settings, records: usize) {
+pub fn lend_created(random: &mut Random, script: &mut Script, s: &Settings, records: usize) {
     let bytes = random.bytes(4 * (1 + records) * s.reclen as usize);
     script.lend(&bytes, bytes.len());
     script.call(Call::Create(*s));
 }
 
 /// Lends a file with up to 12 entries that has so many records to spare.
-fn lend_made(random: &mut Random, script: &mut Script, s: &Settings, records: usize) {
+pub fn lend_made(random: &mut Random, script: &mut Script, s: &Settings, records: usize) {
     let entries = random.from(1, 12);
     let shape = Shape { settings: *s, entries, spare_records: records, ..files::shape(random, script.order) };
     let made = make(random, &shape);
@@ -61,9 +61,11 @@ fn store(script: &mut Script, entries: &[Addition]) {
     assert!(script.file == file, "the reference does not store a batch as its appends");
 }
 
-/// Validates and checks the file, and reads its last entry, one anywhere, and one that is not there.
+/// Validates and checks the file, asks for its record, and reads its last entry, one anywhere, and one that is not
+/// there.
 pub fn look(random: &mut Random, script: &mut Script) {
     script.call(Call::Validate);
+    script.call(Call::OpenFileOf);
     script.call(Call::Check);
     let last = reference::validate(&script.file).map_or(0, |d| d.entries() as usize);
     for entry in [last, random.from(1, last.max(1)), last + 1] {

@@ -6,6 +6,7 @@ use crate::batches;
 use crate::damage::{codes, edges, fields, random_damage, turned, Field};
 use crate::examples::examples;
 use crate::files::{self, area_words, make, make_full, most_extensions, put_bare, together, Made, Shape};
+use crate::held;
 use crate::random::Random;
 use crate::reference::{self, Addition, Order, Settings};
 use crate::script::{Asked, Call, Script};
@@ -14,10 +15,10 @@ use crate::sweeps::{laid, sweep};
 use crate::updates::{self, any_update};
 
 /// What writes a case of a kind into a script.
-type Kind = fn(&mut Random, &mut Script);
+pub type Kind = fn(&mut Random, &mut Script);
 
 /// How many cases there are of each kind in each order, one kind after another.
-const PLAN: [(usize, Kind); 32] = [
+const PLAN: [(usize, Kind); 40] = [
     (1, examples),
     (20, every_edge),
     (6, last_of_64),
@@ -47,15 +48,25 @@ const PLAN: [(usize, Kind); 32] = [
     (60, updates::shared),
     (12, updates::neighbours),
     (150, updates::any_updates),
+    (8, held::every_field),
+    (10, held::other_records),
+    (3, held::refused_files),
+    (6, held::wrong_counts),
+    (8, held::grown),
+    (3, held::great_totals),
+    (52, held::both_ways),
     (SERIES, series::of_appends),
     (BATCH_SERIES, series::with_batches),
     (UPDATE_SERIES, series::with_updates),
+    (RECORD_SERIES, series::through_a_record),
 ];
 
-/// The numbers of series in each order, of appends, with batches, and with updates; they are the last cases.
+/// The numbers of series in each order, of appends, with batches, with updates, and through a record; they are the last
+/// cases.
 const SERIES: usize = 250;
 const BATCH_SERIES: usize = 100;
 const UPDATE_SERIES: usize = 120;
+const RECORD_SERIES: usize = 100;
 
 /// The number of cases.
 pub fn count() -> usize {
@@ -64,7 +75,7 @@ pub fn count() -> usize {
 
 /// Says whether a case is a series for demand 3.
 pub fn is_series(case: usize) -> bool {
-    case >= count() - 2 * (SERIES + BATCH_SERIES + UPDATE_SERIES)
+    case >= count() - 2 * (SERIES + BATCH_SERIES + UPDATE_SERIES + RECORD_SERIES)
 }
 
 /// Makes a case.
@@ -118,13 +129,14 @@ fn identifier(random: &mut Random, made: &Made, entry: u64) -> i32 {
 
 /// One of the calls that read, about an entry.
 fn reading(random: &mut Random, made: &Made, entry: u64) -> Call {
-    match random.from(1, 7) {
+    match random.from(1, 8) {
         1 => Call::Validate,
         2 => Call::ExtensionOf(number(random, made.areas.len())),
         3 => Call::Open(entry),
         4 => Call::IndexWords(entry),
         5 => Call::Section(entry, identifier(random, made, entry)),
         6 => Call::Data(entry),
+        7 => Call::OpenFileOf,
         _ => Call::Check,
     }
 }
@@ -138,6 +150,7 @@ fn all_readings(random: &mut Random, script: &mut Script, made: &Made, entry: u6
     script.call(Call::Section(entry, identifier(random, made, entry)));
     script.call(Call::Data(entry));
     script.call(Call::Check);
+    script.call(Call::OpenFileOf);
 }
 
 /// Appends, spoiled once in so many times.
@@ -271,7 +284,7 @@ fn growths(random: &mut Random, script: &mut Script) {
 }
 
 /// The greatest lex1 below 4,096 with which extension k has at most 16,384 entries, 0 if there is none.
-fn greatest_lex1(gex: i32, k: usize) -> i32 {
+pub fn greatest_lex1(gex: i32, k: usize) -> i32 {
     let admits = |lex1: &i32| reference::capacity(*lex1 as i128, gex as i128, k as i128) <= 16384;
     (1..4096).take_while(admits).count() as i32
 }
@@ -288,6 +301,7 @@ fn try_growth(random: &mut Random, script: &mut Script, settings: &Settings, ext
     for nex in extensions - 1..=extensions + 1 {
         for entries in [held(nex - 1), held(nex - 1) + 1, held(nex) - 1, held(nex), held(nex) + 1] {
             recount(script, extensions, nex, entries);
+            script.call(Call::OpenFileOf);
             if script.call(Call::Validate) != 0 {
                 script.call(reading(random, &made, entries as u64));
                 continue;
@@ -514,6 +528,7 @@ fn creations(random: &mut Random, script: &mut Script) {
         script.lend(&random.bytes(size), size);
         script.call(Call::Create(settings));
         script.call(Call::Validate);
+        script.call(Call::OpenFileOf);
         script.call(Call::Check);
         append(random, script, settings.lind.clamp(3, 256), 6);
     }
@@ -539,7 +554,7 @@ fn spoil_setting(random: &mut Random, s: &mut Settings) {
 }
 
 /// Appends of every kind to a made file, also one that is not in order.
-fn appends(random: &mut Random, script: &mut Script) {
+pub fn appends(random: &mut Random, script: &mut Script) {
     let mut shape = files::shape(random, script.order);
     disorder(random, &mut shape, 4);
     shape.spare_records = random.pick(&[0, 400, 1500]) / shape.settings.reclen as usize;

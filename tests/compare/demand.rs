@@ -1,9 +1,10 @@
 //! Demand 3 on a series, from the library's answers and files alone: what is read after the calls that change the file
 //! is what was read before them and then what the accepted appends were given, numbered on, a section as it was last
-//! updated, and the order check passes. A batch counts as its appends.
+//! updated, and the order check passes. A batch counts as its appends, and a call through a record as the one without
+//! it, but that the record is then the one that the file has.
 
 use crate::driver::Given;
-use crate::reference::{entries_of, Addition, Batch, Update};
+use crate::reference::{entries_of, Addition, Batch, OpenFile, Update};
 use crate::script::{Asked, Call};
 
 /// What an entry holds: version, application index words, what each identifier gives in the order of the sections, and
@@ -16,12 +17,11 @@ struct Content {
     data: Vec<u8>,
 }
 
-/// The appends that a call made, accepted and refused: of a batch the first refused is the last, and 26 makes none.
+/// The appends that a call made, accepted and refused: of a batch the first refused is the last; 26 and 27 make none.
 pub fn appends(call: &Call, fields: &[u64]) -> [u64; 2] {
     match call {
-        Call::Append(_) if fields[0] == 0 => [1, 0],
-        Call::Append(_) => [0, 1],
-        Call::AppendBatch(_) => [fields[1], ![0, 26].contains(&fields[0]) as u64],
+        Call::Append(_) | Call::AppendTo(_) => [(fields[0] == 0) as u64, (fields[0] != 0) as u64],
+        Call::AppendBatch(_) | Call::AppendBatchTo(_) => [fields[1], ![0, 26, 27].contains(&fields[0]) as u64],
         _ => [0, 0],
     }
 }
@@ -29,8 +29,7 @@ pub fn appends(call: &Call, fields: &[u64]) -> [u64; 2] {
 /// The updates that a call made, accepted and refused.
 pub fn updates(call: &Call, fields: &[u64]) -> [u64; 2] {
     match call {
-        Call::Update(_) if fields[0] == 0 => [1, 0],
-        Call::Update(_) => [0, 1],
+        Call::Update(_) | Call::UpdateTo(_) => [(fields[0] == 0) as u64, (fields[0] != 0) as u64],
         _ => [0, 0],
     }
 }
@@ -40,21 +39,25 @@ pub fn updates(call: &Call, fields: &[u64]) -> [u64; 2] {
 pub fn fault(lent: &[u8], asked: &[Asked], given: &[Given]) -> Option<String> {
     let mut file = lent;
     let (mut wanted, mut read) = (vec![], vec![]);
-    let mut changed = false;
+    let (mut changed, mut record) = (false, None);
     for (asked, given) in asked.iter().zip(given) {
         let fields = &given.fields;
-        changed |= matches!(asked.call, Call::Append(_) | Call::AppendBatch(_) | Call::Update(_));
+        changed |= asked.call.changes_file() && !matches!(asked.call, Call::Create(_));
         let result = match &asked.call {
-            Call::Append(a) => accepted(&mut wanted, a, fields),
-            Call::AppendBatch(b) => accepted_of(&mut wanted, b, fields),
-            Call::Update(u) => updated(&mut wanted, u, fields),
+            Call::Append(a) | Call::AppendTo(a) => accepted(&mut wanted, a, fields),
+            Call::AppendBatch(b) | Call::AppendBatchTo(b) => accepted_of(&mut wanted, b, fields),
+            Call::Update(u) | Call::UpdateTo(u) => updated(&mut wanted, u, fields),
             Call::Check => checked(&wanted, std::mem::take(&mut read), fields),
+            Call::OpenFileOf => opened(record, fields),
             call => reading(if changed { &mut read } else { &mut wanted }, call, fields, file),
         };
         if let Err(fault) = result {
             return Some(format!("{}: {fault}", asked.call.described()));
         }
         file = given.after.as_deref().unwrap_or(file);
+        if given.after.is_some() {
+            record = given.held.filter(|_| ![26, 27].contains(&fields[0]));
+        }
     }
     None
 }
@@ -108,6 +111,14 @@ fn updated(contents: &mut [Content], u: &Update, fields: &[u64]) -> Result<(), S
         bytes.resize(size, 0);
     }
     Ok(())
+}
+
+/// Compares the record of the file with the one that a call through it left, if the last change was such a call.
+fn opened(left: Option<OpenFile>, fields: &[u64]) -> Result<(), String> {
+    match left {
+        Some(left) if fields[0] != 0 || fields[1..] != left => Err("not the record that the last change left".into()),
+        _ => Ok(()),
+    }
 }
 
 /// Compares what was read with what is wanted, and demands that the order check passes.

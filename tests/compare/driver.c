@@ -1,11 +1,13 @@
 /* Calls the library as the cases on standard input ask, and writes every field of every answer to standard output.
-   Each lent buffer is a block of its exact size that ends at a page that cannot be touched.
+   Each lent buffer is a block of its exact size that ends at a page that cannot be touched; before a record stand bytes
+   that may not change.
 
    A case is its size (8 bytes) and its steps; numbers are little-endian. Steps: 'F' total, count, bytes: lends a file
-   of total bytes that begins with these; 'A': the file as it was lent; 'P' place, count, bytes: changes the file;
-   '0' to '9' and ':', which is behind '9': a call, with a byte that says whether empty slices are (NULL, 0), and its
-   arguments. Each field of an answer is 8 bytes; after create, append, append_batch and update the count and the bytes
-   of the file's part that 'F' gave follow. */
+   of total bytes that begins with these; 'A': the file as it was lent; 'P' place, count, bytes: changes the file; 'R'
+   and 44 numbers: the fields of the record that calls are lent from now on; '0' to '9' and ':' to '>', which are behind
+   '9': a call, with a byte that says whether empty slices are (NULL, 0), and its arguments. Each field of an answer is
+   8 bytes; after a call that may change the file the count and the bytes of the file's part that 'F' gave follow, and
+   after a call through the record its 44 fields. */
 #define _DEFAULT_SOURCE
 #include "classic.h"
 
@@ -21,8 +23,8 @@ typedef struct {
     size_t span, size, shown;
 } block;
 
-/* No machine has larger pages; no case takes more seconds. */
-enum { PAGE = 65536, SECONDS = 15 };
+/* No machine has larger pages; no case takes more seconds; so many bytes before a record are this, and stay so. */
+enum { PAGE = 65536, SECONDS = 15, BEFORE = 512, MARK = 0xa5 };
 
 /* The case that is being run, and the place in it. */
 static uint8_t *message;
@@ -31,6 +33,9 @@ static size_t message_size, message_at;
 /* The file that is lent, and its bytes in the message. */
 static block file;
 static const uint8_t *file_bytes;
+
+/* The record that is lent, with the bytes before it. */
+static block held;
 
 /* Ends the driver with a message where the case or the machine is at fault. */
 static void give_up(const char *what) {
@@ -95,6 +100,9 @@ static void give_back(const block *b) {
 /* The pointer that is passed for a block. */
 static void *pointer(const block *b, int null) { return null && b->size == 0 ? NULL : b->bytes; }
 
+/* What is passed for a block of elements of a width, where null is known: the pointer and the count. */
+#define LENT(b, width) pointer(&(b), null), (b).size / (width)
+
 /* Writes bytes to standard output. */
 static void put_bytes(const void *bytes, size_t count) {
     if (count > 0 && fwrite(bytes, 1, count, stdout) != count) give_up("standard output");
@@ -111,6 +119,24 @@ static void put(uint64_t value) {
 static void put_file(void) {
     put(file.shown);
     put_bytes(file.bytes, file.shown);
+}
+
+/* Writes each field of a record. */
+static void put_record(const classic_open_file *record) {
+    put(record->order);
+    put(record->reclen);
+    put(record->kind);
+    put(record->vind);
+    put(record->lind);
+    put(record->flags);
+    put(record->xnext);
+    put(record->nextrec);
+    put(record->nextword);
+    put(record->lex1);
+    put(record->nex);
+    put(record->gex);
+    for (int i = 0; i < 16; i++) put(record->aex[i]);
+    for (int i = 0; i < 16; i++) put(record->totals[i]);
 }
 
 /* Takes a file from the case and lends it. */
@@ -138,6 +164,58 @@ static void poke(void) {
     allow(&file, PROT_READ);
 }
 
+/* Lends a record, and marks the bytes before it. */
+static void lend_record(void) {
+    static uint8_t bytes[BEFORE + sizeof(classic_open_file)];
+    memset(bytes, MARK, sizeof bytes);
+    held = lend(bytes, sizeof bytes, sizeof bytes);
+}
+
+/* The record that is lent. */
+static classic_open_file *record(void) { return (classic_open_file *)(held.bytes + BEFORE); }
+
+/* Takes each field of the record from the case. */
+static void new_record(void) {
+    classic_open_file *to = record();
+    allow(&held, PROT_READ | PROT_WRITE);
+    to->order = take_number(8);
+    to->reclen = take_number(8);
+    to->kind = take_number(8);
+    to->vind = take_number(8);
+    to->lind = take_number(8);
+    to->flags = take_number(8);
+    to->xnext = take_number(8);
+    to->nextrec = take_number(8);
+    to->nextword = take_number(8);
+    to->lex1 = take_number(8);
+    to->nex = take_number(8);
+    to->gex = take_number(8);
+    for (int i = 0; i < 16; i++) to->aex[i] = take_number(8);
+    for (int i = 0; i < 16; i++) to->totals[i] = take_number(8);
+    allow(&held, PROT_READ);
+}
+
+/* Lets a call change the file, and one through the record the record too. */
+static void begin_change(int through) {
+    allow(&file, PROT_READ | PROT_WRITE);
+    if (through) allow(&held, PROT_READ | PROT_WRITE);
+}
+
+/* Ends what begin_change began, and sees that the bytes before the record have not changed. */
+static void end_change(int through) {
+    allow(&file, PROT_READ);
+    if (!through) return;
+    allow(&held, PROT_READ);
+    for (int i = 0; i < BEFORE; i++)
+        if (held.bytes[i] != MARK) give_up("bytes before the record have changed");
+}
+
+/* Writes what a call may have changed: the file, and after one through the record the record. */
+static void put_changed(int through) {
+    put_file();
+    if (through) put_record(record());
+}
+
 /* Creates a file with the settings in the case. */
 static void call_create(uint8_t *bytes) {
     classic_settings s;
@@ -149,10 +227,10 @@ static void call_create(uint8_t *bytes) {
     s.flags = take_integer();
     s.lex1 = take_integer();
     s.gex = take_integer();
-    allow(&file, PROT_READ | PROT_WRITE);
+    begin_change(0);
     put(classic_create(bytes, file.size, s));
-    allow(&file, PROT_READ);
-    put_file();
+    end_change(0);
+    put_changed(0);
 }
 
 /* Validates the file. */
@@ -219,20 +297,21 @@ static void call_check(const uint8_t *bytes) {
     put(c.refusal);
 }
 
-/* Appends what the case gives, each slice in a block of its own. */
-static void call_append(uint8_t *bytes, int null) {
+/* Appends what the case gives, through the record or without it, each slice in a block of its own. */
+static void call_append(uint8_t *bytes, int null, int through) {
     int32_t version = take_integer();
     block index = take_block(1), ids = take_block(4), lengths = take_block(8);
     block sections = take_block(1), data = take_block(1);
-    allow(&file, PROT_READ | PROT_WRITE);
+    begin_change(through);
     classic_appended a =
-        classic_append(bytes, file.size, version, pointer(&index, null), index.size, pointer(&ids, null), ids.size / 4,
-                       pointer(&lengths, null), lengths.size / 8, pointer(&sections, null), sections.size,
-                       pointer(&data, null), data.size);
-    allow(&file, PROT_READ);
+        through ? classic_append_to(record(), bytes, file.size, version, LENT(index, 1), LENT(ids, 4), LENT(lengths, 8),
+                                    LENT(sections, 1), LENT(data, 1))
+                : classic_append(bytes, file.size, version, LENT(index, 1), LENT(ids, 4), LENT(lengths, 8),
+                                 LENT(sections, 1), LENT(data, 1));
+    end_change(through);
     put(a.refusal);
     put(a.number);
-    put_file();
+    put_changed(through);
     give_back(&index);
     give_back(&ids);
     give_back(&lengths);
@@ -240,19 +319,22 @@ static void call_append(uint8_t *bytes, int null) {
     give_back(&data);
 }
 
-/* Appends the batch that the case gives, each array in a block of its own; a row of counts has 40 bytes. */
-static void call_append_batch(uint8_t *bytes, int null) {
+/* Appends the batch that the case gives, through the record or without it, each array in a block of its own; a row of
+   counts has 40 bytes. */
+static void call_append_batch(uint8_t *bytes, int null, int through) {
     block versions = take_block(4), counts = take_block(40), index = take_block(1), ids = take_block(4);
     block lengths = take_block(8), sections = take_block(1), data = take_block(1);
-    allow(&file, PROT_READ | PROT_WRITE);
-    classic_batched b = classic_append_batch(
-        bytes, file.size, pointer(&versions, null), versions.size / 4, pointer(&counts, null), counts.size / 40,
-        pointer(&index, null), index.size, pointer(&ids, null), ids.size / 4, pointer(&lengths, null), lengths.size / 8,
-        pointer(&sections, null), sections.size, pointer(&data, null), data.size);
-    allow(&file, PROT_READ);
+    begin_change(through);
+    classic_batched b =
+        through ? classic_append_batch_to(record(), bytes, file.size, LENT(versions, 4), LENT(counts, 40),
+                                          LENT(index, 1), LENT(ids, 4), LENT(lengths, 8), LENT(sections, 1),
+                                          LENT(data, 1))
+                : classic_append_batch(bytes, file.size, LENT(versions, 4), LENT(counts, 40), LENT(index, 1),
+                                       LENT(ids, 4), LENT(lengths, 8), LENT(sections, 1), LENT(data, 1));
+    end_change(through);
     put(b.refusal);
     put(b.accepted);
-    put_file();
+    put_changed(through);
     give_back(&versions);
     give_back(&counts);
     give_back(&index);
@@ -262,19 +344,27 @@ static void call_append_batch(uint8_t *bytes, int null) {
     give_back(&data);
 }
 
-/* Updates a section by the content that the case gives, in a block of its own: its size, and the bytes that it begins
-   with; of those behind them none may be touched. */
-static void call_update(uint8_t *bytes, int null) {
+/* Updates a section, through the record or without it, by the content that the case gives, in a block of its own: its
+   size, and the bytes that it begins with; of those behind them none may be touched. */
+static void call_update(uint8_t *bytes, int null, int through) {
     uint64_t entry = take_number(8);
     int32_t identifier = take_integer();
     size_t total = take_number(8), shown = take_number(8);
     if (shown > total) give_up("more bytes than the content has");
     block content = lend(take(shown), shown, total);
-    allow(&file, PROT_READ | PROT_WRITE);
-    put(classic_update(bytes, file.size, entry, identifier, pointer(&content, null), content.size));
-    allow(&file, PROT_READ);
-    put_file();
+    begin_change(through);
+    put(through ? classic_update_to(record(), bytes, file.size, entry, identifier, LENT(content, 1))
+                : classic_update(bytes, file.size, entry, identifier, LENT(content, 1)));
+    end_change(through);
+    put_changed(through);
     give_back(&content);
+}
+
+/* Asks for the record of the file. */
+static void call_open_file_of(const uint8_t *bytes) {
+    classic_open_file_answer a = classic_open_file_of(bytes, file.size);
+    put(a.refusal);
+    put_record(&a.file);
 }
 
 /* Makes the call of a number. */
@@ -290,9 +380,13 @@ static void call(int which) {
     case '5': call_section(bytes); break;
     case '6': put_part(classic_data(bytes, file.size, take_number(8))); break;
     case '7': call_check(bytes); break;
-    case '8': call_append(bytes, null); break;
-    case '9': call_append_batch(bytes, null); break;
-    case ':': call_update(bytes, null); break;
+    case '8': call_append(bytes, null, 0); break;
+    case '9': call_append_batch(bytes, null, 0); break;
+    case ':': call_update(bytes, null, 0); break;
+    case ';': call_open_file_of(bytes); break;
+    case '<': call_append(bytes, null, 1); break;
+    case '=': call_append_batch(bytes, null, 1); break;
+    case '>': call_update(bytes, null, 1); break;
     default: give_up("a step that is not known");
     }
     if (fflush(stdout) != 0) give_up("standard output");
@@ -307,6 +401,7 @@ static void run_case(void) {
         if (step == 'F') new_file();
         else if (step == 'A') file_again();
         else if (step == 'P') poke();
+        else if (step == 'R') new_record();
         else call(step);
     }
     alarm(0);
@@ -324,10 +419,12 @@ static int next_case(void) {
 }
 
 int main(void) {
+    lend_record();
     while (next_case()) {
         run_case();
         free(message);
     }
     give_back(&file);
+    give_back(&held);
     return 0;
 }

@@ -1,5 +1,6 @@
 //! The driver as a running process: a case is sent whole, then its answers are read one by one.
 
+use crate::reference::OpenFile;
 use crate::script::Asked;
 use std::io::{self, BufReader, Read, Write};
 use std::process::{Child, ChildStdout, Command, Stdio};
@@ -10,10 +11,12 @@ pub struct Driver {
     answers: BufReader<ChildStdout>,
 }
 
-/// What the library gave: every field in the header's order, and after a call that may change the file its bytes.
+/// What the library gave: every field in the header's order, after a call that may change the file its bytes, and after
+/// a call through a record the record.
 pub struct Given {
     pub fields: Vec<u64>,
     pub after: Option<Vec<u8>>,
+    pub held: Option<OpenFile>,
 }
 
 impl Driver {
@@ -36,15 +39,19 @@ impl Driver {
     /// Reads the answer to a call.
     pub fn answer(&mut self, asked: &Asked) -> io::Result<Given> {
         let fields = asked.answer.fields.iter().map(|_| self.number()).collect::<io::Result<Vec<u64>>>()?;
-        let after = match asked.after {
-            None => None,
-            Some(_) => {
-                let mut bytes = vec![0; self.number()? as usize];
-                self.answers.read_exact(&mut bytes)?;
-                Some(bytes)
+        let (mut after, mut held) = (None, None);
+        if asked.after.is_some() {
+            let mut bytes = vec![0; self.number()? as usize];
+            self.answers.read_exact(&mut bytes)?;
+            after = Some(bytes);
+        }
+        if let Some(mut record) = asked.held {
+            for field in &mut record {
+                *field = self.number()?;
             }
-        };
-        Ok(Given { fields, after })
+            held = Some(record);
+        }
+        Ok(Given { fields, after, held })
     }
 
     /// Reads one number of an answer.

@@ -1,10 +1,10 @@
 //! The examples that document 01 works by hand, with the capacities of Q-2 in document 02 and in both orders of Q-4, and
-//! those of, as the first cases: the reference must give the numbers and bytes written here, and the
-//! library is compared with the reference.
+//! those of, as the first cases: the reference must give the numbers and bytes written here, and
+//! the library is compared with the reference.
 
 use crate::files::make_full;
 use crate::random::Random;
-use crate::reference::{Addition, Batch, Order, Settings, Update};
+use crate::reference::{Addition, Batch, OpenFile, Order, Settings, Update, FIELDS};
 use crate::script::{Call, Script};
 use crate::sweeps::laid;
 
@@ -45,6 +45,8 @@ pub fn examples(_: &mut Random, script: &mut Script) {
     batches(script);
     a_by_a_batch(script);
     updates(script);
+    record_of_a(script);
+    false_records(script);
 }
 
 /// P1 to P5 and the listing: file A, and with a record fewer.
@@ -256,5 +258,83 @@ fn updates(script: &mut Script) {
         assert_eq!(script.file, wanted, "the reference fails the bytes of A after an update");
         expect(script, "Q-3, the section", Call::Section(1, 7), &[0, 4 * 56, 12]);
         expect(script, "Q-3, the order of A", Call::Check, &[0, 0]);
+    }
+}
+
+/// the records of file A when it is created and after each append: xnext, nextrec, nextword and nex, and for each
+/// extension the address and the total.
+fn records(order: Order) -> [OpenFile; 4] {
+    let rows: [([u64; 4], [u64; 2], [u64; 2]); 4] = [
+        ([1, 2, 1, 0], [0, 0], [0, 0]),
+        ([2, 4, 5, 1], [2, 0], [2, 0]),
+        ([3, 4, 16, 1], [2, 0], [2, 0]),
+        ([4, 6, 12, 2], [2, 5], [2, 6]),
+    ];
+    rows.map(|([xnext, nextrec, nextword, nex], aex, totals)| {
+        let mut record = [0; FIELDS.len()];
+        record[..6].copy_from_slice(&[order as u64, 20, 1, 2, 4, 0]);
+        record[6..12].copy_from_slice(&[xnext, nextrec, nextword, 2, nex, 20]);
+        record[12..14].copy_from_slice(&aex);
+        record[28..30].copy_from_slice(&totals);
+        record
+    })
+}
+
+/// Asks a call through a record, and demands its answer and the record after it, which is then the file's.
+fn expect_record(script: &mut Script, call: Call, fields: &[u64], record: OpenFile) {
+    expect(script, "Q-5", call, fields);
+    assert_eq!(script.held, record, "the reference fails the record of Q-5");
+    expect(script, "Q-5, the record", Call::OpenFileOf, &[&[0], &record[..]].concat());
+}
+
+/// file A through its record, by appends and by a batch, and with a record fewer; calls that are refused and an
+/// update leave the record as it is.
+fn record_of_a(script: &mut Script) {
+    let records = records(script.order);
+    let [first, second, third] = additions();
+    let all = Call::AppendBatchTo(laid(&additions()));
+    for (size, fields, after) in [(480, [0, 3], records[3]), (400, [24, 2], records[2])] {
+        script.lend(&vec![0xff; size], size);
+        expect(script, "creating A", Call::Create(settings(script.order, 20, 4, 2, 20)), &[0]);
+        script.open();
+        expect_record(script, Call::AppendBatchTo(Batch::default()), &[0, 0], records[0]);
+        expect_record(script, all.clone(), &fields, after);
+        expect(script, "creating A", Call::Create(settings(script.order, 20, 4, 2, 20)), &[0]);
+        script.open();
+        expect_record(script, Call::AppendTo(first.clone()), &[0, 1], records[1]);
+        expect_record(script, Call::AppendTo(second.clone()), &[0, 2], records[2]);
+        let (refusal, number) = if size == 480 { (0, 3) } else { (24, 0) };
+        expect_record(script, Call::AppendTo(third.clone()), &[refusal, number], after);
+        expect_record(script, Call::AppendTo(Addition::default()), &[21, 0], after);
+        for (identifier, bytes, refusal) in [(7, 8, 0), (7, 16, 28), (8, 8, 20)] {
+            let update = Update { entry: 1, identifier, content: vec![9; bytes], beyond: 0 };
+            expect_record(script, Call::UpdateTo(update), &[refusal], after);
+        }
+    }
+}
+
+/// file A after (2), through its record with one field changed, and over its first 40 bytes through its record and
+/// through zeros: 27 also for no entries, 26 for 65, and nothing changes.
+fn false_records(script: &mut Script) {
+    let [first, second, third] = additions();
+    let own = records(script.order)[2];
+    let changed = (0..FIELDS.len()).map(|field| std::array::from_fn(|i| own[i] ^ (i == field) as u64));
+    let cases = changed.map(|held| (480, held)).chain([(40, own), (40, [0; FIELDS.len()])]);
+    script.lend(&[0xff; 480], 480);
+    expect(script, "creating A", Call::Create(settings(script.order, 20, 4, 2, 20)), &[0]);
+    expect(script, "A by a batch", Call::AppendBatch(laid(&[first, second])), &[0, 2]);
+    let file = script.file.clone();
+    let update = Update { entry: 1, identifier: 7, content: vec![9; 4], beyond: 0 };
+    for (size, held) in cases {
+        script.lend(&file[..size], size);
+        script.hold(held);
+        expect(script, "Q-5", Call::AppendTo(third.clone()), &[27, 0]);
+        expect(script, "Q-5", Call::AppendTo(Addition::default()), &[27, 0]);
+        expect(script, "Q-5", Call::AppendBatchTo(laid(&[third.clone()])), &[27, 0]);
+        expect(script, "Q-5, no entries", Call::AppendBatchTo(Batch::default()), &[27, 0]);
+        expect(script, "Q-5, 65 entries", Call::AppendBatchTo(laid(&vec![third.clone(); 65])), &[26, 0]);
+        expect(script, "Q-5", Call::UpdateTo(update.clone()), &[27]);
+        expect(script, "Q-5", Call::UpdateTo(Update::default()), &[27]);
+        assert!(script.held == held && script.file == file[..size], "the reference changes what it refuses by 27");
     }
 }

@@ -9,6 +9,7 @@ mod demand;
 mod driver;
 mod examples;
 mod files;
+mod held;
 mod random;
 mod reference;
 mod script;
@@ -18,7 +19,7 @@ mod table;
 mod updates;
 
 use driver::{Driver, Given};
-use reference::Order;
+use reference::{Order, FIELDS};
 use script::{Asked, Call, Script, CALLS};
 use table::Table;
 
@@ -49,18 +50,21 @@ struct Comparison {
     differing: [usize; CALLS.len()],
     files: usize,
     differing_files: usize,
+    records: usize,
+    differing_records: usize,
     series: [Series; 2],
     shown: usize,
     table: Table,
 }
 
-/// The series of one order: how many, how many that fail demand 3, the batches in them, and accepted and refused the
-/// appends, those of batches too, and the updates.
+/// The series of one order: how many, how many that fail demand 3, the batches and the calls through a record in them,
+/// and accepted and refused the appends, those of batches too, and the updates.
 #[derive(Default)]
 struct Series {
     made: usize,
     failed: usize,
     batches: usize,
+    through: usize,
     appends: [u64; 2],
     updates: [u64; 2],
 }
@@ -129,7 +133,8 @@ impl Comparison {
         let series = &mut self.series[script.order as usize];
         series.made += 1;
         for (asked, given) in script.asked.iter().zip(given) {
-            series.batches += matches!(asked.call, Call::AppendBatch(_)) as usize;
+            series.batches += matches!(asked.call, Call::AppendBatch(_) | Call::AppendBatchTo(_)) as usize;
+            series.through += asked.call.takes_record() as usize;
             add(&mut series.appends, demand::appends(&asked.call, &given.fields));
             add(&mut series.updates, demand::updates(&asked.call, &given.fields));
         }
@@ -139,7 +144,7 @@ impl Comparison {
         }
     }
 
-    /// Compares one answer and the file after it.
+    /// Compares one answer, and the file and the record after it.
     fn compare(&mut self, case: usize, i: usize, asked: &Asked, given: &Given) {
         let call = asked.call.number();
         let (ours, theirs) = (&asked.answer.fields, &given.fields);
@@ -152,14 +157,35 @@ impl Comparison {
         } else {
             self.table.count(asked);
         }
-        if let (Some(ours), Some(theirs)) = (&asked.after, &given.after) {
-            self.files += 1;
-            if let Some(at) = (0..ours.len().max(theirs.len())).find(|&at| ours.get(at) != theirs.get(at)) {
-                self.differing_files += 1;
-                let (ours, theirs) = (ours.get(at), theirs.get(at));
-                let what = format!("byte {at} of the file is {theirs:?} by the library, {ours:?} by the reference");
-                self.show(case, i, &format!("{}: {what}", asked.call.described()));
-            }
+        self.compare_files(case, i, asked, given);
+        self.compare_records(case, i, asked, given);
+    }
+
+    /// Compares the file after a call that may change it.
+    fn compare_files(&mut self, case: usize, i: usize, asked: &Asked, given: &Given) {
+        let (Some(ours), Some(theirs)) = (&asked.after, &given.after) else {
+            return;
+        };
+        self.files += 1;
+        if let Some(at) = (0..ours.len().max(theirs.len())).find(|&at| ours.get(at) != theirs.get(at)) {
+            self.differing_files += 1;
+            let (ours, theirs) = (ours.get(at), theirs.get(at));
+            let what = format!("byte {at} of the file is {theirs:?} by the library, {ours:?} by the reference");
+            self.show(case, i, &format!("{}: {what}", asked.call.described()));
+        }
+    }
+
+    /// Compares the record after a call through it.
+    fn compare_records(&mut self, case: usize, i: usize, asked: &Asked, given: &Given) {
+        let (Some(ours), Some(theirs)) = (&asked.held, &given.held) else {
+            return;
+        };
+        self.records += 1;
+        if let Some(at) = (0..FIELDS.len()).find(|&at| ours[at] != theirs[at]) {
+            self.differing_records += 1;
+            let (field, ours, theirs) = (FIELDS[at], ours[at], theirs[at]);
+            let what = format!("{field} of the record is {theirs} by the library, {ours} by the reference");
+            self.show(case, i, &format!("{}: {what}", asked.call.described()));
         }
     }
 
@@ -185,7 +211,7 @@ impl Comparison {
         }
     }
 
-    /// Judges what was compared: each call, the bytes, demand 3. Of a single case only what it has.
+    /// Judges what was compared: each call, the bytes, the records, demand 3. Of a single case only what it has.
     fn judge_agreement(&self, verdict: &mut Verdict) {
         let all = self.options.case.is_none();
         let mut judge = |name: &str, things: &str, made: usize, differing: usize| {
@@ -196,11 +222,13 @@ impl Comparison {
         for (call, name) in CALLS.iter().enumerate() {
             judge(name, "calls", self.calls[call], self.differing[call]);
         }
-        judge("bytes", "files after create, append, append_batch and update", self.files, self.differing_files);
+        judge("bytes", "files after calls that may change them", self.files, self.differing_files);
+        judge("records", "records after calls through them", self.records, self.differing_records);
         for (order, series) in Order::BOTH.iter().zip(&self.series) {
             let said = |[accepted, refused]: [u64; 2]| format!("{accepted} accepted and {refused} refused");
             let (appends, updates) = (said(series.appends), said(series.updates));
-            let things = format!("series with {} batches, appends {appends}, updates {updates}", series.batches);
+            let kinds = format!("{} batches, {} calls through a record", series.batches, series.through);
+            let things = format!("series with {kinds}, appends {appends}, updates {updates}");
             judge(&format!("demand 3, {}", order.name()), &things, series.made, series.failed);
         }
     }

@@ -1,5 +1,6 @@
 //! A small generator of random numbers (xorshift64*), so that a seed and a case number repeat a case everywhere.
 
+#[derive(Clone)]
 pub struct Random(u64);
 
 impl Random {

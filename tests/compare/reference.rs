@@ -1,12 +1,17 @@
 //! The independent implementation of document 01, with the batches of Q-1, the capacities of Q-2, the updates of Q-3,
-//! the byte orders of Q-4 and the leftovers of Q-7 in document 02, plain and slow, over the lent bytes of a file:
-//! written from these papers and the memo alone. Every number is an i128, so that no sum or product of stored numbers
-//! or of counts can wrap. The calls that write stand in writer.rs.
+//! the byte orders of Q-4, the record of the open file of Q-5 and the leftovers of Q-7 in document 02, plain and slow,
+//! over the lent bytes of a file: written from these papers and the memo alone. Every number is an i128, so that no sum
+//! or product of stored numbers or of counts can wrap. The calls that write stand in writer.rs, those through a record
+//! in open_file.rs.
 
+#[path = "open_file.rs"]
+mod open_file;
 #[path = "writer.rs"]
 mod writer;
 
 // Not every program that is built with this file uses all of these.
+#[allow(unused_imports)]
+pub use open_file::{append_batch_to, append_to, open_file_of, update_to, OpenFile, FIELDS, REFUSED};
 #[allow(unused_imports)]
 pub use writer::{append, append_batch, create, entries_of, update, Addition, Batch, Update};
 
@@ -193,6 +198,15 @@ pub fn capacity(lex1: i128, gex: i128, k: i128) -> i128 {
 }
 
 impl Descriptor {
+    /// All fields, with 16 places of addresses, those past nex zero.
+    pub fn fields(&self) -> Vec<i128> {
+        let mut fields = vec![self.order as i128, self.reclen, self.kind, self.vind, self.lind, self.flags];
+        fields.extend([self.xnext, self.nextrec, self.nextword, self.lex1, self.nex, self.gex]);
+        fields.extend(&self.aex);
+        fields.resize(12 + 16, 0);
+        fields
+    }
+
     /// The number of entries.
     pub fn entries(&self) -> i128 {
         self.xnext - 1

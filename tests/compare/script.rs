@@ -1,10 +1,10 @@
-//! A script is one case: a file, changes to it and calls, as the driver reads them, and for each call the answer
-//! that the reference gives at that place.
+//! A script is one case: a file, a record, changes to them and calls, as the driver reads them, and for each call the
+//! answer that the reference gives at that place.
 
-use crate::reference::{self, Addition, Batch, Order, Refusal, Settings, Update};
+use crate::reference::{self, Addition, Batch, OpenFile, Order, Refusal, Settings, Update, FIELDS};
 
 /// The calls of the interface, in the order of their numbers in the driver's protocol.
-pub const CALLS: [&str; 11] = [
+pub const CALLS: [&str; 15] = [
     "create",
     "validate",
     "extension_of",
@@ -16,9 +16,13 @@ pub const CALLS: [&str; 11] = [
     "append",
     "append_batch",
     "update",
+    "open_file_of",
+    "append_to",
+    "append_batch_to",
+    "update_to",
 ];
 
-/// One call with its arguments, the file aside.
+/// One call with its arguments, the file and the record aside.
 #[derive(Clone, Debug)]
 pub enum Call {
     Create(Settings),
@@ -32,6 +36,19 @@ pub enum Call {
     Append(Addition),
     AppendBatch(Batch),
     Update(Update),
+    OpenFileOf,
+    AppendTo(Addition),
+    AppendBatchTo(Batch),
+    UpdateTo(Update),
+}
+
+/// How a case makes the calls that can go through a record: without one, through the one that is held, or through one
+/// with a field that is not true and then through the one that the file has.
+#[derive(Clone, Copy, PartialEq)]
+pub enum Through {
+    Nothing,
+    Held,
+    FalseThenTrue,
 }
 
 /// An answer: every field in the header's order, and for the table the refusal with the way it came about.
@@ -41,17 +58,19 @@ pub struct Answer {
     pub fields: Vec<u64>,
 }
 
-/// A call of a script, the order that it counts for, the reference's answer, and after a call that may change the file
-/// the file's bytes.
+/// A call of a script, the order that it counts for, the reference's answer, after a call that may change the file the
+/// file's bytes, and after a call through a record the record.
 pub struct Asked {
     pub order: Order,
     pub call: Call,
     pub answer: Answer,
     pub after: Option<Vec<u8>>,
+    pub held: Option<OpenFile>,
 }
 
 /// A case as it grows: the order of its files, and its place among the cases of its kind and order; the driver's
-/// message, the calls asked so far, the file as lent and as it is now; and, where a call is watched, the file before it.
+/// message, the calls asked so far, the file as lent and as it is now, the record that is held, and how calls go through
+/// one; and, where a call is watched, the file before it.
 pub struct Script {
     pub order: Order,
     pub turn: usize,
@@ -59,6 +78,8 @@ pub struct Script {
     pub asked: Vec<Asked>,
     pub lent: Vec<u8>,
     pub file: Vec<u8>,
+    pub held: OpenFile,
+    pub through: Through,
     watched: Option<usize>,
     pub watched_file: Vec<u8>,
 }
@@ -77,11 +98,13 @@ impl Asked {
     /// Where in a batch the entry stands that ended it: 0 is the first place, 1 one between, 2 the last.
     pub fn place(&self) -> Option<usize> {
         match &self.call {
-            Call::AppendBatch(b) if (21..=24).contains(&self.answer.refusal) => match self.answer.fields[1] as usize {
-                0 => Some(0),
-                accepted if accepted + 1 < b.versions.len() => Some(1),
-                _ => Some(2),
-            },
+            Call::AppendBatch(b) | Call::AppendBatchTo(b) if (21..=24).contains(&self.answer.refusal) => {
+                match self.answer.fields[1] as usize {
+                    0 => Some(0),
+                    accepted if accepted + 1 < b.versions.len() => Some(1),
+                    _ => Some(2),
+                }
+            }
             _ => None,
         }
     }
@@ -90,10 +113,12 @@ impl Asked {
     /// than any section has, 3 others.
     pub fn content(&self) -> Option<usize> {
         match &self.call {
-            Call::Update(u) if u.bytes() == 0 => Some(0),
-            Call::Update(u) if u.bytes() % 4 != 0 => Some(1),
-            Call::Update(u) if u.beyond > 0 => Some(2),
-            Call::Update(_) => Some(3),
+            Call::Update(u) | Call::UpdateTo(u) => match u.bytes() {
+                0 => Some(0),
+                bytes if bytes % 4 != 0 => Some(1),
+                _ if u.beyond > 0 => Some(2),
+                _ => Some(3),
+            },
             _ => None,
         }
     }
@@ -114,37 +139,59 @@ impl Call {
             Call::Append(_) => 8,
             Call::AppendBatch(_) => 9,
             Call::Update(_) => 10,
+            Call::OpenFileOf => 11,
+            Call::AppendTo(_) => 12,
+            Call::AppendBatchTo(_) => 13,
+            Call::UpdateTo(_) => 14,
+        }
+    }
+
+    /// Says whether the call may change the file.
+    pub fn changes_file(&self) -> bool {
+        self.takes_record()
+            || matches!(self, Call::Create(_) | Call::Append(_) | Call::AppendBatch(_) | Call::Update(_))
+    }
+
+    /// Says whether a record is lent to the call.
+    pub fn takes_record(&self) -> bool {
+        matches!(self, Call::AppendTo(_) | Call::AppendBatchTo(_) | Call::UpdateTo(_))
+    }
+
+    /// The same through a record, where there is such a call.
+    fn through_record(self) -> Call {
+        match self {
+            Call::Append(a) => Call::AppendTo(a),
+            Call::AppendBatch(b) => Call::AppendBatchTo(b),
+            Call::Update(u) => Call::UpdateTo(u),
+            other => other,
         }
     }
 
     /// The name of a field of the answer.
     pub fn field(&self, i: usize) -> String {
         let names: &[&str] = match self {
-            Call::Create(_) | Call::Update(_) => &["refusal"],
-            Call::Validate => &[
-                "refusal", "order", "reclen", "kind", "vind", "lind", "flags", "xnext", "nextrec", "nextword", "lex1",
-                "nex", "gex",
-            ],
+            Call::Create(_) | Call::Update(_) | Call::UpdateTo(_) | Call::Validate | Call::OpenFileOf => &["refusal"],
             Call::ExtensionOf(_) => &["refusal", "capacity", "first", "records"],
             Call::Open(_) => &["refusal", "record", "word", "version", "nsec", "nword", "adata", "ldata"],
             Call::IndexWords(_) | Call::Section(..) | Call::Data(_) => &["refusal", "start", "length"],
             Call::Check => &["entry", "refusal"],
-            Call::Append(_) => &["refusal", "number"],
-            Call::AppendBatch(_) => &["refusal", "accepted"],
+            Call::Append(_) | Call::AppendTo(_) => &["refusal", "number"],
+            Call::AppendBatch(_) | Call::AppendBatchTo(_) => &["refusal", "accepted"],
         };
         let past = i.wrapping_sub(names.len());
         match self {
             _ if i < names.len() => names[i].to_string(),
-            Call::Validate => format!("aex[{past}]"),
+            Call::Validate | Call::OpenFileOf => FIELDS[past].to_string(),
             _ => format!("{}[{}]", ["ids", "lengths", "addresses"][past / 64], past % 64),
         }
     }
 
     /// Says what the call is, shortened.
     pub fn described(&self) -> String {
+        let name = CALLS[self.number()];
         match self {
-            Call::Append(a) => format!(
-                "append (version {}, {} index bytes, ids {:?}, lengths {:?}, {} section bytes, {} data bytes)",
+            Call::Append(a) | Call::AppendTo(a) => format!(
+                "{name} (version {}, {} index bytes, ids {:?}, lengths {:?}, {} section bytes, {} data bytes)",
                 a.version,
                 a.index.len(),
                 a.ids,
@@ -152,24 +199,26 @@ impl Call {
                 a.sections.len(),
                 a.data.len()
             ),
-            Call::AppendBatch(b) => format!(
-                "append_batch ({} versions, counts {:?}, lent {:?}: index bytes, ids, lengths, section and data bytes)",
+            Call::AppendBatch(b) | Call::AppendBatchTo(b) => format!(
+                "{name} ({} versions, counts {:?}, lent {:?}: index bytes, ids, lengths, section and data bytes)",
                 b.versions.len(),
                 b.counts,
                 b.lent()
             ),
-            Call::Update(u) => {
-                format!("update (entry {}, identifier {}, {} content bytes)", u.entry, u.identifier, u.bytes())
+            Call::Update(u) | Call::UpdateTo(u) => {
+                format!("{name} (entry {}, identifier {}, {} content bytes)", u.entry, u.identifier, u.bytes())
             }
             _ => format!("{self:?}"),
         }
     }
 
-    /// The reference's answer; create, append, append_batch and update change the file.
-    fn answer(&self, file: &mut [u8]) -> Answer {
+    /// The reference's answer; create, append, append_batch and update change the file, and those through a record the
+    /// file and the record.
+    fn answer(&self, file: &mut [u8], held: &mut OpenFile) -> Answer {
+        let number = |number: u64| vec![number as i128];
         match self {
             Call::Create(settings) => refusal_first(reference::create(file, settings).map(|()| vec![]), 0),
-            Call::Validate => refusal_first(reference::validate(file).map(|d| descriptor_fields(&d)), 12 + 16),
+            Call::Validate => refusal_first(reference::validate(file).map(|d| d.fields()), 12 + 16),
             Call::ExtensionOf(k) => {
                 refusal_first(reference::extension_of(file, *k).map(|e| vec![e.capacity, e.first, e.records]), 3)
             }
@@ -178,9 +227,16 @@ impl Call {
             Call::Section(k, id) => part(reference::section(file, *k, *id)),
             Call::Data(k) => part(reference::data(file, *k)),
             Call::Check => check(reference::check(file)),
-            Call::Append(a) => refusal_first(reference::append(file, a).map(|number| vec![number as i128]), 1),
+            Call::Append(a) => refusal_first(reference::append(file, a).map(number), 1),
             Call::AppendBatch(b) => batched(reference::append_batch(file, b)),
             Call::Update(u) => refusal_first(reference::update(file, u).map(|()| vec![]), 0),
+            Call::OpenFileOf => {
+                let fields = |own: OpenFile| own.map(i128::from).to_vec();
+                refusal_first(reference::open_file_of(file).map(fields), FIELDS.len())
+            }
+            Call::AppendTo(a) => refusal_first(reference::append_to(held, file, a).map(number), 1),
+            Call::AppendBatchTo(b) => batched(reference::append_batch_to(held, file, b)),
+            Call::UpdateTo(u) => refusal_first(reference::update_to(held, file, u).map(|()| vec![]), 0),
         }
     }
 
@@ -199,14 +255,14 @@ impl Call {
                 out.extend(k.to_le_bytes());
                 out.extend(id.to_le_bytes());
             }
-            Call::Validate | Call::Check => {}
-            Call::Append(a) => {
+            Call::Validate | Call::Check | Call::OpenFileOf => {}
+            Call::Append(a) | Call::AppendTo(a) => {
                 out.extend(a.version.to_le_bytes());
                 for part in [&a.index, &bytes4(&a.ids), &bytes8(&a.lengths), &a.sections, &a.data] {
                     encode_bytes(out, part);
                 }
             }
-            Call::AppendBatch(b) => {
+            Call::AppendBatch(b) | Call::AppendBatchTo(b) => {
                 let counts: Vec<u8> = b.counts.iter().flatten().flat_map(|count| count.to_le_bytes()).collect();
                 for part in [&bytes4(&b.versions), &counts, &b.index, &bytes4(&b.ids), &bytes8(&b.lengths)] {
                     encode_bytes(out, part);
@@ -214,7 +270,7 @@ impl Call {
                 encode_bytes(out, &b.sections);
                 encode_bytes(out, &b.data);
             }
-            Call::Update(u) => {
+            Call::Update(u) | Call::UpdateTo(u) => {
                 out.extend(u.entry.to_le_bytes());
                 out.extend(u.identifier.to_le_bytes());
                 out.extend(u.bytes().to_le_bytes());
@@ -276,15 +332,6 @@ fn batched(result: Result<u64, (u64, Refusal)>) -> Answer {
     }
 }
 
-/// The fields of a descriptor, with 16 places of addresses.
-fn descriptor_fields(d: &reference::Descriptor) -> Vec<i128> {
-    let mut fields = vec![d.order as i128, d.reclen, d.kind, d.vind, d.lind, d.flags];
-    fields.extend([d.xnext, d.nextrec, d.nextword, d.lex1, d.nex, d.gex]);
-    fields.extend(&d.aex);
-    fields.resize(12 + 16, 0);
-    fields
-}
-
 /// The fields of an entry, with three tables of 64 places.
 fn entry_fields(e: &reference::Entry) -> Vec<i128> {
     let mut fields = vec![e.record, e.word, e.version, e.nsec, e.nword, e.adata, e.ldata];
@@ -297,10 +344,13 @@ fn entry_fields(e: &reference::Entry) -> Vec<i128> {
 }
 
 impl Script {
-    /// A case without steps, in which a call may be watched.
+    /// A case that begins with a record of zeros, in which a call may be watched.
     pub fn new(order: Order, turn: usize, watched: Option<usize>) -> Script {
         let (message, lent, file, watched_file) = (vec![], vec![], vec![], vec![]);
-        Script { order, turn, message, asked: vec![], lent, file, watched, watched_file }
+        let (asked, held, through) = (vec![], [0; FIELDS.len()], Through::Nothing);
+        let mut script = Script { order, turn, message, asked, lent, file, held, through, watched, watched_file };
+        script.hold(held);
+        script
     }
 
     /// Lends a file that begins with these bytes; a longer one goes on with bytes that no call may touch.
@@ -327,18 +377,59 @@ impl Script {
         self.file[at..at + bytes.len()].copy_from_slice(bytes);
     }
 
-    /// Asks a call, and gives its refusal; every second call of a case lends its empty slices as (NULL, 0).
+    /// Makes the record that is lent to calls another.
+    pub fn hold(&mut self, held: OpenFile) {
+        self.message.push(b'R');
+        held.iter().for_each(|field| self.message.extend(field.to_le_bytes()));
+        self.held = held;
+    }
+
+    /// Asks for the record of the file, makes it the one that is lent to calls, and gives it; zeros of a file that is
+    /// refused.
+    pub fn open(&mut self) -> OpenFile {
+        self.ask(Call::OpenFileOf);
+        self.hold(reference::open_file_of(&self.file).unwrap_or([0; FIELDS.len()]));
+        self.held
+    }
+
+    /// Asks a call, through a record where the case makes it so, and gives its refusal.
     pub fn call(&mut self, call: Call) -> u32 {
+        let call = if self.through == Through::Nothing { call } else { call.through_record() };
+        if self.through == Through::FalseThenTrue && call.takes_record() {
+            self.ask_by_false_record(&call);
+        }
+        self.ask(call)
+    }
+
+    /// Asks a call through the record that the file has but for one bit, fields and bits in turn, and then holds the
+    /// true one. Of a file that is refused no record is true.
+    fn ask_by_false_record(&mut self, call: &Call) {
+        let Ok(own) = reference::open_file_of(&self.file) else {
+            return;
+        };
+        if self.held != own {
+            self.open();
+        }
+        let mut held = own;
+        let made = self.turn + self.asked.len() / 2;
+        held[made % FIELDS.len()] ^= 1 << (made % 64);
+        self.hold(held);
+        self.ask(call.clone());
+        self.hold(own);
+    }
+
+    /// Asks a call as it is, and gives its refusal; every second call of a case lends its empty slices as (NULL, 0).
+    fn ask(&mut self, call: Call) -> u32 {
         if self.watched == Some(self.asked.len()) {
             self.watched_file = self.file[..self.lent.len()].to_vec();
         }
         call.encode(&mut self.message, (self.turn + self.asked.len()) % 2 == 0);
         let order = self.order_of(&call);
-        let answer = call.answer(&mut self.file);
+        let answer = call.answer(&mut self.file, &mut self.held);
         let refusal = answer.refusal;
-        let changes = matches!(call, Call::Create(_) | Call::Append(_) | Call::AppendBatch(_) | Call::Update(_));
-        let after = if changes { Some(self.file[..self.lent.len()].to_vec()) } else { None };
-        self.asked.push(Asked { order, call, answer, after });
+        let after = call.changes_file().then(|| self.file[..self.lent.len()].to_vec());
+        let held = call.takes_record().then_some(self.held);
+        self.asked.push(Asked { order, call, answer, after, held });
         refusal
     }
 

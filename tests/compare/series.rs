@@ -1,10 +1,11 @@
-//! The series for demand 3: appends, batches and updates in any order, from a created file or from one in order.
+//! The series for demand 3: appends, batches and updates in any order, through a record and without it, from a created
+//! file or from one in order.
 
 use crate::cases::{append, number, read_all};
 use crate::files::{self, make};
 use crate::random::Random;
 use crate::reference;
-use crate::script::{Call, Script};
+use crate::script::{Call, Script, Through};
 use crate::sweeps::any_batch;
 use crate::updates::any_update;
 
@@ -38,6 +39,27 @@ pub fn with_updates(random: &mut Random, script: &mut Script) {
         change(random, script, lind);
         if random.once_in(16) {
             look(script);
+        }
+    }
+    look(script);
+}
+
+/// A series of updates, appends and batches good and bad, mostly through a record that is kept, with the record of the
+/// file asked for after each. One without the record makes it false until the file is opened again.
+pub fn through_a_record(random: &mut Random, script: &mut Script) {
+    let lind = begin(random, script);
+    script.open();
+    for _ in 0..random.from(6, 40) {
+        script.through = if random.once_in(8) { Through::Nothing } else { Through::Held };
+        if random.once_in(2) {
+            append(random, script, lind, 4);
+        } else {
+            change(random, script, lind);
+        }
+        if random.once_in(4) {
+            script.open();
+        } else {
+            script.call(Call::OpenFileOf);
         }
     }
     look(script);

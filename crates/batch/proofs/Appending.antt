@@ -40,6 +40,13 @@ module _ (file : List ℕ) (d : DescriptorNumbers) (addresses : List RecordNumbe
   unfolding appendedFrom fileFrom
   kept-from some = either (eqb (appendRefusal (length file) d h) 0) (λ q. absurd (some (rw q))) (λ q. rw q)
 
+  -- which validates as before
+  pub stays-from : let r = appendedFrom (length file) d addresses h in (r .refusal ≡ 0 → ⊥) → Validates (fileFrom file d addresses h) (r .numbers) (r .addresses)
+  unfolding appendedFrom
+  stays-from some =
+      let n = appendRefusal (length file) d h in
+      either (eqb n 0) (λ q. absurd (some (rw q))) (λ q. rw q (rw (kept-from some) v))
+
   -- an accepted one has numbers and addresses after it
   pub validates-from : appendedFrom (length file) d addresses h .refusal ≡ 0
       → let r = appendedFrom (length file) d addresses h in Validates (fileFrom file d addresses h) (r .numbers) (r .addresses)

@@ -14,11 +14,10 @@ use Rattle.descriptor.specs.Rules.{fileRefusal}
 use Rattle.descriptor.specs.Answers.{validationOf, validatedCase}
 use Rattle.descriptor.proofs.Refusals.{all-hold}
 use Rattle.writer.specs.Answers.{appendIn}
-use Rattle.batch.specs.declared.batching.Batched.{Batched}
 use Rattle.batch.specs.Batch.{Batch, entriesIn}
 use Rattle.batch.specs.Rules.{batchRules, batchRefusal}
 use Rattle.batch.specs.Cursor.{begun}
-use Rattle.batch.specs.Answers.{answerInTurn, fileInTurn, AppendsInTurn, batchOf, fileAfterBatch, AppendsBatch}
+use Rattle.batch.specs.Answers.{answerInTurn, fileInTurn, batchOf, fileAfterBatch, AppendsBatch}
 use Rattle.batch.proofs.Entries.{entries-next, entries-done}
 
 -- the number of a file that is refused is not 0
@@ -37,15 +36,20 @@ module _ (file : List ℕ) (b : Batch) where
 
   module _ (passed : batchRefusal b ≡ 0) where
     -- else its appends in turn
-    pub in-turn : (r : Batched) (after : List ℕ) → AppendsInTurn file (entriesIn b) r after → AppendsBatch file b r after
-    unfolding batchOf fileAfterBatch
-    in-turn r after a = rw (eq-eqb (batchRefusal b) 0 passed) a
+    pub in-turn : batchOf file b ≡ answerInTurn 0 file (entriesIn b)
+    unfolding batchOf
+    in-turn = rw (eq-eqb (batchRefusal b) 0 passed)
+
+    -- and the file after them
+    pub file-in-turn : fileAfterBatch file b ≡ fileInTurn file (entriesIn b)
+    unfolding fileAfterBatch
+    file-in-turn = rw (eq-eqb (batchRefusal b) 0 passed)
 
     -- without an entry: neither a refusal nor an entry, whatever the file
     pub none : length (b .versions) ≡ 0 → AppendsBatch file b (record { refusal = 0; accepted = 0 }) file
     none h =
         let empty = entries-done b 0 begun (omega (arith, h)) in
-        in-turn _ _ (sym (ap (answerInTurn 0 file) empty), sym (ap (fileInTurn file) empty))
+        (sym (in-turn ∙ ap (answerInTurn 0 file) empty), sym (file-in-turn ∙ ap (fileInTurn file) empty))
 
     -- with entries and a file that is refused: the file's number, by the first
     pub file-refused : (length (b .versions) ≡ 0 → ⊥) → (n : ℕ) → validationOf file .numbers ≡ Refused n → AppendsBatch file b (record { refusal = n; accepted = 0 }) file
@@ -54,4 +58,4 @@ module _ (file : List ℕ) (b : Batch) where
         let rules = all-hold (batchRules b) (omega arith) passed in
         let first = entries-next b 0 begun (omega (arith, some)) (eqb-true (length (b .counts)) (length (b .versions)) (rules .1 .0)) in
         let stop = refused-some file n e in
-        in-turn _ _ (sym (ap (answerInTurn 0 file) first ∙ rw (e, stop)), sym (ap (fileInTurn file) first ∙ rw (e, stop)))
+        (sym (in-turn ∙ ap (answerInTurn 0 file) first ∙ rw (e, stop)), sym (file-in-turn ∙ ap (fileInTurn file) first ∙ rw (e, stop)))

@@ -9,6 +9,7 @@ use Rattle.writer.specs.declared.inner.AppendedFrom.{AppendedFrom}
 use Rattle.writer.specs.Answers.{appendedFrom, fileFrom}
 use Rattle.batch.specs.declared.cursor.Cursor.{Cursor}
 use Rattle.batch.specs.declared.turn.Turn.{Turn}
+use Rattle.batch.specs.declared.inner.BatchedFrom.{BatchedFrom}
 use Rattle.batch.specs.Batch.{Laid}
 use Rattle.batch.specs.Cursor.{past, entryBetween}
 
@@ -19,6 +20,10 @@ nextEntry t version counts x = entryBetween version (t .at) (past (t .at) counts
 -- after an append from numbers at hand: its refusal, the numbers and addresses after it, and the cursor behind its entry
 abbrev pub turnFrom : AppendedFrom → Cursor → Turn
 turnFrom r next = record { refusal = r .refusal; numbers = r .numbers; areas = r .addresses; at = next }
+
+-- the answer where a batch ends, after so many accepted entries
+abbrev pub endedAt : Turn → ℕ → BatchedFrom
+endedAt t accepted = record { refusal = t .refusal; accepted = accepted; numbers = t .numbers; addresses = t .areas }
 
 -- what `append_next` promises: that of the append of the next entry, and the file after it
 abbrev pub AppendsNext : List ℕ → Turn → ℤ → List ℕ → Laid → Turn → List ℕ → Type 0

@@ -44,7 +44,7 @@ fn use_up(counts: &[[u64; 5]], column: usize, elements: usize) -> bool
 }
 
 // The first rule that is broken, 26, or 0.
-pub(crate) fn batch_refusal(
+pub fn batch_refusal(
     versions: &[i32],
     counts: &[[u64; 5]],
     index: &[u8],

@@ -6,7 +6,8 @@ use lib.ListN.{replicate}
 use Rattle.descriptor.specs.Answers.{noValidation}
 use Rattle.pieces.specs.Tables.{noSections}
 use Rattle.entry.specs.declared.answers.Open.the-variants.{Numbers, Refused}
-use Rattle.classic.specs.Answers.{recordNumbers, entryAddresses, descriptorFor, entryFor, partFor, checkedFor}
+use Rattle.geometry.specs.Units.{recordNumbers}
+use Rattle.classic.specs.Answers.{entryAddresses, descriptorFor, entryFor, partFor, checkedFor}
 
 -- bytes 340 to 348 of a file: start 340, length 8
 part-of-eight : partFor (record { refusal = 0; start = 340; end = 348 }) ≡ record { refusal = 0; start = 340; length = 8 }
@@ -14,7 +15,6 @@ part-of-eight = refl
 
 -- index areas at records 2 and 9
 two-areas : recordNumbers (record { 0 = 2 } ∷ record { 0 = 9 } ∷ []) ≡ 2 ∷ 9 ∷ []
-unfolding recordNumbers
 two-areas = refl
 
 -- a file with another code: the number, and zeros
@@ -34,7 +34,6 @@ other-code : descriptorFor (noValidation 2) ≡ record {
   gex = 0;
   aex = replicate 16 0;
 }
-unfolding recordNumbers
 other-code = refl
 
 -- an entry number above the last: the number, and zeros

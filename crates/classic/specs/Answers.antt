@@ -1,9 +1,9 @@
 -- The answers of the crates below as C has them (include/classic.h): an enum becomes a refusal field, a unit its number, a part its start and length.
 use Prim.Native.Nat.{ℕ, _-_}
 use mathlib.Core.List.{List, map}
-use Rattle.outcome.specs.Outcome.{AnswersAndLeaves}
 use Rattle.geometry.specs.declared.units.RecordNumber.{RecordNumber}
 use Rattle.geometry.specs.declared.units.EntryAddress.{EntryAddress}
+use Rattle.geometry.specs.Units.{recordNumbers}
 use Rattle.descriptor.specs.declared.validating.Validation.{Validation}
 use Rattle.descriptor.specs.declared.validating.ValidatedCase.{ValidatedCase}
 use Rattle.descriptor.specs.declared.extensions.Extension.{Extension}
@@ -15,26 +15,14 @@ use Rattle.entry.specs.declared.answers.Opened.{Opened}
 use Rattle.entry.specs.Answers.{openCase}
 use Rattle.handing.specs.declared.place.PartPlace.{PartPlace}
 use Rattle.order.specs.declared.answers.Checked.{Checked}
-use Rattle.writer.specs.declared.appending.Appended.{Appended}
-use Rattle.storing.specs.Handed.{Handed}
-use Rattle.writer.specs.Answers.{appendOf, fileAfter}
-use Rattle.batch.specs.declared.batching.Batched.{Batched}
-use Rattle.batch.specs.Batch.{Batch}
-use Rattle.batch.specs.Answers.{batchOf, fileAfterBatch}
 use Rattle.classic.specs.declared.answers.ClassicDescriptor.{ClassicDescriptor}
 use Rattle.classic.specs.declared.answers.ClassicExtension.{ClassicExtension}
 use Rattle.classic.specs.declared.answers.ClassicEntry.{ClassicEntry}
 use Rattle.classic.specs.declared.answers.ClassicPart.{ClassicPart}
 use Rattle.classic.specs.declared.answers.ClassicChecked.{ClassicChecked}
-use Rattle.classic.specs.declared.answers.ClassicAppended.{ClassicAppended}
-use Rattle.classic.specs.declared.answers.ClassicBatched.{ClassicBatched}
 use Rattle.classic.specs.declared.answers.ClassicSettings.{ClassicSettings}
 
--- the numbers of a table of records
-unfoldable pub recordNumbers : List RecordNumber → List ℕ
-recordNumbers table = map (λ (r : RecordNumber). r .0) table
-
--- and of a table of addresses
+-- the numbers of a table of addresses
 unfoldable pub entryAddresses : List EntryAddress → List ℕ
 entryAddresses table = map (λ (a : EntryAddress). a .0) table
 
@@ -92,22 +80,6 @@ partFor p = record { refusal = p .refusal; start = p .start; length = p .end - p
 -- an order check, field by field
 abbrev pub checkedFor : Checked → ClassicChecked
 checkedFor x = record { entry = x .entry .0; refusal = x .refusal }
-
--- an append, field by field
-abbrev pub appendedFor : Appended → ClassicAppended
-appendedFor x = record { refusal = x .refusal; number = x .number .0 }
-
--- what `classic_append` promises: the answer of the append field by field, and the file after it
-abbrev pub AppendsForC : List ℕ → Handed → ClassicAppended → List ℕ → Type 0
-AppendsForC file h answer after = AnswersAndLeaves (appendedFor (appendOf file h)) (fileAfter file h) answer after
-
--- a batch, field by field
-abbrev pub batchedFor : Batched → ClassicBatched
-batchedFor x = record { refusal = x .refusal; accepted = x .accepted }
-
--- what `classic_append_batch` promises: the answer of the batch field by field, and the file after it
-abbrev pub AppendsBatchForC : List ℕ → Batch → ClassicBatched → List ℕ → Type 0
-AppendsBatchForC file b answer after = AnswersAndLeaves (batchedFor (batchOf file b)) (fileAfterBatch file b) answer after
 
 -- the settings that C hands in, field by field
 abbrev pub settingsFrom : ClassicSettings → Settings

@@ -56,20 +56,6 @@ pub struct ClassicPart {
     pub length: u64,
 }
 
-// An append: the refusal, and the number of the new entry.
-#[repr(C)]
-pub struct ClassicAppended {
-    pub refusal: u32,
-    pub number: u64,
-}
-
-// A batch: the refusal, and how many of its entries were accepted.
-#[repr(C)]
-pub struct ClassicBatched {
-    pub refusal: u32,
-    pub accepted: u64,
-}
-
 // An order check: the first entry that fails, and its refusal.
 #[repr(C)]
 pub struct ClassicChecked {

@@ -1,11 +1,12 @@
 // Appending an entry, and a batch of entries, for C.
-use super::answers::ClassicAppended;
-use super::answers::ClassicBatched;
+use batch::Batched;
 use batch::append_batch;
+use writer::Appended;
 use writer::append;
 ghost use Rattle.storing.specs.Handed.{handed};
+ghost use Rattle.writer.specs.Answers.{Appends};
 ghost use Rattle.batch.specs.Batch.{laid, batch};
-ghost use Rattle.classic.specs.Answers.{AppendsForC, AppendsBatchForC};
+ghost use Rattle.batch.specs.Answers.{AppendsBatch};
 
 // Appends an entry: its version, the application's index words, its sections by identifiers, lengths
 // and bytes one after another, and its data. Answers its number, or the refusal.
@@ -18,14 +19,10 @@ pub extern "C" fn classic_append(
     lengths: &[i64],
     sections: &[u8],
     values: &[u8],
-) -> ClassicAppended
-    ensures { λ r. ⌜ AppendsForC (now (file .entry)) (handed version index ids lengths sections values) r (now (file .exit)) ⌝ }
+) -> Appended
+    ensures { λ r. ⌜ Appends (now (file .entry)) (handed version index ids lengths sections values) r (now (file .exit)) ⌝ }
 {
-    let appended = append(file, version, index, ids, lengths, sections, values);
-    ClassicAppended {
-        refusal: appended.refusal,
-        number: appended.number.0,
-    }
+    append(file, version, index, ids, lengths, sections, values)
 }
 
 // Appends entries in turn, of which each kind is laid end to end, with a row of counts for each entry:
@@ -41,10 +38,10 @@ pub extern "C" fn classic_append_batch(
     lengths: &[i64],
     sections: &[u8],
     values: &[u8],
-) -> ClassicBatched
-    ensures { λ r. ⌜ AppendsBatchForC (now (file .entry)) (batch versions counts (laid index ids lengths sections values)) r (now (file .exit)) ⌝ }
+) -> Batched
+    ensures { λ r. ⌜ AppendsBatch (now (file .entry)) (batch versions counts (laid index ids lengths sections values)) r (now (file .exit)) ⌝ }
 {
-    let batched = append_batch(
+    append_batch(
         file,
         versions,
         counts,
@@ -53,9 +50,5 @@ pub extern "C" fn classic_append_batch(
         lengths,
         sections,
         values,
-    );
-    ClassicBatched {
-        refusal: batched.refusal,
-        accepted: batched.accepted,
-    }
+    )
 }

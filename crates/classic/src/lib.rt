@@ -1,9 +1,9 @@
 // The library as its callers have it: the calls for C (include/classic.h), and the public calls and
 // types of the crates below for Rattle products.
 //
-// Each `classic_` function makes one call of a crate below, puts the answer into a struct for C, and
-// promises that call's own definition; specs/Answers.antt says which field is which. No call has a
-// premise. What the border assumes of a caller in C, and cannot prove: each pointer leads to as many
+// Each `classic_` function makes one call of a crate below and promises that call's own definition. Where
+// the answer is not laid out as C has it, it is put into a struct for C; specs/Answers.antt says which
+// field is which. No call has a premise. What the border assumes of a caller in C, and cannot prove: each pointer leads to as many
 // elements as its count says, aligned for their type, and the buffers of one call do not overlap.
 mod answers;
 mod appending;
@@ -11,12 +11,11 @@ mod checking;
 mod creating;
 mod opening;
 mod parts;
+mod recording;
 mod tables;
 mod updating;
 mod validating;
 
-pub use answers::ClassicAppended;
-pub use answers::ClassicBatched;
 pub use answers::ClassicChecked;
 pub use answers::ClassicDescriptor;
 pub use answers::ClassicEntry;
@@ -62,6 +61,12 @@ pub use handing::index_words_refusal;
 pub use handing::section;
 pub use handing::section_place;
 pub use handing::section_refusal;
+pub use held::OpenFile;
+pub use held::OpenFileAnswer;
+pub use held::open_file_of;
+pub use lent::append_batch_to;
+pub use lent::append_to;
+pub use lent::update_to;
 pub use opening::classic_open;
 pub use order::Checked;
 pub use order::check_order;
@@ -69,6 +74,16 @@ pub use parts::classic_data;
 pub use parts::classic_index_words;
 pub use parts::classic_section;
 pub use pieces::Sections;
+pub use recording::classic_append_batch_to;
+pub use recording::classic_append_to;
+pub use recording::classic_open_file_of;
+pub use recording::classic_update_to;
+pub use through::AppendedThrough;
+pub use through::BatchedThrough;
+pub use through::UpdatedThrough;
+pub use through::append_batch_through;
+pub use through::append_through;
+pub use through::update_through;
 pub use update::update_section;
 pub use updating::classic_update;
 pub use validating::classic_extension_of;

@@ -3,7 +3,8 @@ use geometry::EntryAddress;
 use geometry::RecordNumber;
 use layout::entry_descriptor::PLACES;
 ghost use Rattle.outcome.specs.Outcome.{Answers};
-ghost use Rattle.classic.specs.Answers.{recordNumbers, entryAddresses};
+ghost use Rattle.geometry.specs.Units.{recordNumbers};
+ghost use Rattle.classic.specs.Answers.{entryAddresses};
 
 // The numbers of 16 records.
 pub(crate) fn record_numbers(table: [RecordNumber; 16]) -> [u64; 16]

@@ -20,6 +20,7 @@ pub use rules::setting_refusal;
 pub use validating::Validated;
 pub use validating::ValidatedCase;
 pub use validating::Validation;
+pub use validating::no_numbers;
 pub use validating::refusal_of;
 pub use validating::validate;
 pub use validating::validated_case;

@@ -27,6 +27,7 @@ pub struct Settings {
 
 // The order that the code of a first record says, and its fields but the addresses: as stored while they
 // are tested, and within their limits once they are validated.
+#[repr(C)]
 pub struct DescriptorNumbers {
     pub order: ByteOrder,
     pub reclen: u64,

@@ -72,7 +72,7 @@ pub fn validate(file: &[u8]) -> Validation
 }
 
 // Numbers that are all zero.
-fn no_numbers() -> DescriptorNumbers
+pub fn no_numbers() -> DescriptorNumbers
     ensures { λ r. ⌜ Answers noNumbers r ⌝ }
 {
     DescriptorNumbers {

@@ -11,7 +11,7 @@ use borrow.Author.Tests.{leb-true, eqb-true, ne-eqb}
 use lib.Dec.{eqb}
 use lib.ListN.{length}
 use mir.Syntax.{w32, w64}
-use Rattle.words.specs.Code.{sameBytes}
+use Rattle.words.specs.Code.{sameNumbers}
 use Rattle.words.proofs.Ranges.{within-bounds, atLeast-bounds}
 use Rattle.geometry.specs.declared.units.RecordNumber.{RecordNumber}
 use Rattle.geometry.specs.declared.units.EntryNumber.{EntryNumber}
@@ -77,7 +77,7 @@ pub record Opens (file : List ℕ) (d : DescriptorNumbers) (e : EntryNumber) (pl
   pub record-high : place .«record» .0 ≤ 2 ^ 32
   pub word-low : 1 ≤ place .word .0
   pub word-high : place .word .0 ≤ d .reclen
-  pub code : sameBytes (entryCodeOf file (startOf d place)) entryCode ≡ true
+  pub code : sameNumbers (entryCodeOf file (startOf d place)) entryCode ≡ true
   pub described : Described (byteOrderOf file) file (startOf d place) (nsecOf file (startOf d place))
   pub nword-low : 11 + 5 * nsecOf file (startOf d place) ≤ nwordOf file (startOf d place)
   pub nword-small : nwordOf file (startOf d place) < 2 ^ 32

@@ -6,7 +6,7 @@ use lib.Dec.{leb, eqb}
 use lib.IntN.{pos}
 use Rattle.words.specs.Word.{integer4, integer8, bitsAt, signedOf}
 use Rattle.words.specs.Range.{within, atLeast}
-use Rattle.words.specs.Code.{sameBytes}
+use Rattle.words.specs.Code.{sameNumbers}
 use Rattle.geometry.specs.declared.units.RecordNumber.{RecordNumber}
 use Rattle.geometry.specs.declared.units.EntryNumber.{EntryNumber}
 use Rattle.geometry.specs.declared.units.Place.{Place}
@@ -58,7 +58,7 @@ startRules d place =
 -- rules 14 to 16: the entry descriptor
 abbrev pub headRules : List ℕ → DescriptorNumbers → ℕ → EntryNumber → List Rule
 headRules file d start e =
-    row 14 (sameBytes (entryCodeOf file start) entryCode) ∷
+    row 14 (sameNumbers (entryCodeOf file start) entryCode) ∷
     row 15 (within 0 sectionsMax (signedOf integer4 (nsecOf file start))) ∷
     row 15 (atLeast (descriptorWords (nsecOf file start)) (signedOf integer8 (nwordOf file start))) ∷
     row 15 (leb (start + nwordOf file start) (freeOf d)) ∷

@@ -1,5 +1,6 @@
 -- Units counted from 1, positions counted in words from 0, offsets in bytes. A number 0 of a unit names nothing, and no rule admits one.
 use Prim.Native.Nat.{ℕ, _+_, _*_, _-_, _/_, _%_}
+use mathlib.Core.List.{List, map}
 use Rattle.geometry.specs.declared.units.RecordNumber.{RecordNumber}
 use Rattle.geometry.specs.declared.units.WordNumber.{WordNumber}
 use Rattle.geometry.specs.declared.units.EntryNumber.{EntryNumber}
@@ -38,3 +39,7 @@ entriesBefore e = e .0 - 1
 -- where extension k stands in a table, counted from 0
 abbrev pub indexOf : ExtensionNumber → ℕ
 indexOf k = k .0 - 1
+
+-- the numbers of a table of records
+abbrev pub recordNumbers : List RecordNumber → List ℕ
+recordNumbers table = map (λ (r : RecordNumber). r .0) table

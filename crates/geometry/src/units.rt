@@ -5,12 +5,15 @@ ghost use Rattle.outcome.specs.Outcome.{Answers};
 ghost use Rattle.geometry.specs.Units.{positionOf, placeOf, entryPositionOf, entryAddressOf, offsetOf, firstRecordOffsetOf, entriesBefore, indexOf};
 
 // A record of the file.
+#[repr(C)]
 pub struct RecordNumber(pub u64);
 
 // A word of a record.
+#[repr(C)]
 pub struct WordNumber(pub u64);
 
 // An entry of the file.
+#[repr(C)]
 pub struct EntryNumber(pub u64);
 
 // An extension of the file.

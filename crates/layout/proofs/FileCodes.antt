@@ -8,11 +8,11 @@ use lib.ListN.{length}
 use Rattle.outcome.proofs.Either.{either}
 use Rattle.image.specs.Image.{part}
 use Rattle.words.specs.declared.byte_order.ByteOrder.{ByteOrder}
-use Rattle.words.specs.Code.{sameBytes}
+use Rattle.words.specs.Code.{sameNumbers}
 use Rattle.layout.specs.FileCode.{fileCode, orderSaid, fileCodeOf, byteOrderOf}
 
 numbered : (n : ℕ) → n ≤ 1 → orderSaid (fileCode (record { 0 = n })) ≡ record { 0 = n }
-unfolding orderSaid fileCode sameBytes
+unfolding orderSaid fileCode sameNumbers
 numbered zero h = refl
 numbered (suc zero) h = refl
 numbered (suc (suc n)) h = absurd (omega arith)

@@ -5,7 +5,7 @@ use mathlib.Core.List.{List, [], _∷_}
 use lib.Dec.{eqb}
 use Rattle.image.specs.Image.{part}
 use Rattle.words.specs.declared.byte_order.ByteOrder.{ByteOrder}
-use Rattle.words.specs.Code.{sameBytes}
+use Rattle.words.specs.Code.{sameNumbers}
 use Rattle.geometry.specs.Units.{firstRecordOffsetOf}
 use Rattle.layout.specs.FirstRecordWords.{fileCodeWord}
 
@@ -23,7 +23,7 @@ fileCode o = cond (eqb (o .0) 0) littleCode bigCode
 
 -- the order that a code says: 0 for the little code, 1 for the big one; any other code says 2, which rule 2 refuses
 unfoldable pub orderSaid : List ℕ → ByteOrder
-orderSaid code = record { 0 = cond (sameBytes code littleCode) 0 (cond (sameBytes code bigCode) 1 2) }
+orderSaid code = record { 0 = cond (sameNumbers code littleCode) 0 (cond (sameNumbers code bigCode) 1 2) }
 
 -- a file's code, as four bytes
 unfoldable pub fileCodeOf : List ℕ → List ℕ

@@ -3,7 +3,7 @@ use mathlib.Core.Path.{refl}
 use Rattle.image.specs.Image.{part, splice, zeros, allZero}
 use Rattle.words.specs.Word.{littleNumber, littleNumeral, arranged, number, numeral, bitsAt}
 use Rattle.words.specs.Range.{within, atLeast}
-use Rattle.words.specs.Code.{sameBytes}
+use Rattle.words.specs.Code.{sameNumbers}
 use Rattle.geometry.specs.Computing.{computing}
 use Rattle.layout.specs.FileCode.{fileCode, orderSaid, fileCodeOf}
 use Rattle.descriptor.specs.FirstRecord.{field4, field8, numbersOf, createdOf, addressesOf, mexOf}
@@ -27,9 +27,12 @@ use Rattle.batch.specs.Rules.{batchRefusal}
 use Rattle.batch.specs.Answers.{batchOf, fileAfterBatch}
 use Rattle.update.specs.Rules.{contentRefusal}
 use Rattle.update.specs.Answers.{updateAt, fileAt}
+use Rattle.held.specs.Record.{totalsOf, openFileIn}
+use Rattle.held.specs.Rules.{heldRefusal}
+use Rattle.through.specs.Answers.{appendThrough, batchThrough, updateThrough}
 use Rattle.promises.specs.FileA.{A}
 use Rattle.promises.specs.Examples.{AllMatch, EachMatches, examples, entry, withSection, withoutSection, Differ}
-use Rattle.promises.specs.RequestExamples.{batchExamples, growthExamples, updateExamples, orderExamples, writesExamples, leftoverExamples, requestExamples}
+use Rattle.promises.specs.RequestExamples.{batchExamples, growthExamples, updateExamples, orderExamples, recordExamples, writesExamples, leftoverExamples, requestExamples}
 
 -- a row's proof and those of the rows behind it
 infixr 60 _&_
@@ -38,7 +41,7 @@ a & b = (a, b)
 
 -- what the theorems below see through: to unfold this is to unfold all that it names
 seen : Unit {0}
-unfolding part splice zeros allZero littleNumber littleNumeral arranged number numeral bitsAt within atLeast sameBytes
+unfolding part splice zeros allZero littleNumber littleNumeral arranged number numeral bitsAt within atLeast sameNumbers
     computing fileCode orderSaid fileCodeOf field4 field8 numbersOf createdOf addressesOf mexOf entriesFit areaAfter areasStart areasEnd noLeftovers fileRefusal validationOf
     entryCodeOf word4 word8 sectionOf dataOf pieceWithin dataWithin sectionsWithin apart apartFrom sectionsApart dataApart
     sectionAddresses sectionIdentifiers sectionLengths sectionsOf sameInteger sectionNamed
@@ -46,7 +49,7 @@ unfolding part splice zeros allZero littleNumber littleNumeral arranged number n
     firstWritten creationRefusal createdFile absent distinct positive appendRefusal
     full newArea afterNewArea entryStart nexAfter numbersAfter addressesAfter
     headFrom areaWritten entryWritten indexWritten appended appendedFrom fileFrom appendIn fileIn batchRefusal batchOf fileAfterBatch
-    contentRefusal updateAt fileAt
+    contentRefusal updateAt fileAt totalsOf openFileIn heldRefusal appendThrough batchThrough updateThrough
 seen = record {}
 
 -- every row of the table
@@ -113,6 +116,15 @@ order-examples =
     refl & refl & refl & refl & refl & refl &
     record {}
 
+record-examples : AllMatch recordExamples
+unfolding recordExamples seen
+record-examples =
+    -- Q-5
+    refl & refl & refl & refl & refl & refl & refl & refl & refl & refl &
+    refl & refl & refl & refl & refl & refl & refl & refl & refl & refl &
+    refl & refl & refl & refl & refl & refl & refl & refl & refl &
+    record {}
+
 writes-examples : AllMatch writesExamples
 unfolding writesExamples seen
 writes-examples =
@@ -130,7 +142,7 @@ leftover-examples =
 
 -- every row of the tables of the requests
 pub request-examples : EachMatches requestExamples
-request-examples = batch-examples & growth-examples & update-examples & order-examples & writes-examples & leftover-examples & record {}
+request-examples = batch-examples & growth-examples & update-examples & order-examples & record-examples & writes-examples & leftover-examples & record {}
 
 -- the first entries of two files differ
 pub first-entries : Differ (openOf withSection (entry 1) .answer) (openOf withoutSection (entry 1) .answer)

@@ -2,11 +2,11 @@
 use Prim.Native.Nat.{ℕ, _+_, _*_, _-_, _/_, _^_}
 use mathlib.Core.List.{List, [], _∷_, _++_, map}
 use lib.IntN.{ℤ, pos, negℤ}
-use lib.ListN.{length, replicate}
+use lib.ListN.{length, getD, set, take, drop, replicate}
 use Rattle.image.specs.Image.{splice}
 use Rattle.image.specs.Writes.{Write, put}
 use Rattle.geometry.specs.declared.units.RecordNumber.{RecordNumber}
-use Rattle.geometry.specs.Units.{offsetOf}
+use Rattle.geometry.specs.Units.{offsetOf, recordNumbers}
 use Rattle.geometry.specs.Growth.{growthOf, capacityOf}
 use Rattle.descriptor.specs.declared.numbers.DescriptorNumbers.{DescriptorNumbers}
 use Rattle.descriptor.specs.Rules.{fileRefusal}
@@ -20,6 +20,10 @@ use Rattle.batch.specs.declared.batching.Batched.{Batched}
 use Rattle.batch.specs.Batch.{Batch, laidIn, batchIn, entriesIn}
 use Rattle.batch.specs.Answers.{batchOf, fileAfterBatch}
 use Rattle.update.specs.Answers.{Update, updateIn, updateOf, fileAfterUpdate}
+use Rattle.held.specs.declared.opening.OpenFile.{OpenFile}
+use Rattle.held.specs.Record.{totalsOf, openFileOf}
+use Rattle.held.specs.Rules.{fieldsOf, heldRefusal}
+use Rattle.through.specs.Answers.{appendThrough, batchThrough, updateThrough}
 use Rattle.promises.specs.Contents.{numbersIn, openedIn, found, sectionFound}
 use Rattle.promises.specs.Calls.{following}
 use Rattle.promises.specs.WrittenOnce.{writesOf, timesWritten}
@@ -33,6 +37,10 @@ use Rattle.promises.specs.Examples.Row.{Q}
 -- a file with another byte at an offset
 abbrev pub withByte : List ℕ → ℕ → ℕ → List ℕ
 withByte file at byte = splice file at (byte ∷ [])
+
+-- a file in which the last byte of word w, counted from the file's start, is 1
+abbrev pub leftIn : ℕ → List ℕ → List ℕ
+leftIn w file = withByte file (4 * w - 1) 1
 
 -- ---- Q-1
 
@@ -233,6 +241,99 @@ orderExamples =
     Q 4 (creationRefusal 480 (settingsIn (pos 2) 15 4 2 20)) 2 ∷
     []
 
+-- ---- Q-5
+
+-- the 44 numbers of a record, in the order of the header
+abbrev pub allFields : OpenFile → List ℕ
+allFields x = fieldsOf (x .numbers) ++ recordNumbers (x .addresses) ++ x .totals
+
+-- the record that has these 44 numbers
+abbrev pub recordOf : List ℕ → OpenFile
+recordOf fields = record {
+  numbers = record {
+    order = record { 0 = getD fields 0 0 };
+    reclen = getD fields 1 0;
+    kind = getD fields 2 0;
+    vind = getD fields 3 0;
+    lind = getD fields 4 0;
+    flags = getD fields 5 0;
+    xnext = record { 0 = getD fields 6 0 };
+    nextrec = record { 0 = getD fields 7 0 };
+    nextword = record { 0 = getD fields 8 0 };
+    lex1 = getD fields 9 0;
+    nex = getD fields 10 0;
+    gex = getD fields 11 0;
+  };
+  addresses = map aex (take 16 (drop 12 fields));
+  totals = drop 28 fields;
+}
+
+-- a record of a file with the settings of A, of an order: xnext, nextrec, nextword, nex; the first two addresses, and the first two totals
+abbrev pub recordLikeA : ℕ → ℕ → ℕ → ℕ → ℕ → ℕ → ℕ → ℕ → ℕ → OpenFile
+recordLikeA order xnext nextrec nextword nex aex1 aex2 total1 total2 =
+    recordOf ((order ∷ 20 ∷ 1 ∷ 2 ∷ 4 ∷ 0 ∷ xnext ∷ nextrec ∷ nextword ∷ 2 ∷ nex ∷ 20 ∷ []) ++ (aex1 ∷ aex2 ∷ replicate 14 0) ++ (total1 ∷ total2 ∷ replicate 14 0))
+
+-- the record of A as it is created, after append (2), and after append (3): the first extension holds 2 entries, the second 4
+abbrev pub record0 : OpenFile
+record0 = recordLikeA 0 1 2 1 0 0 0 0 0
+
+abbrev pub record2 : OpenFile
+record2 = recordLikeA 0 3 4 16 1 2 0 2 0
+
+abbrev pub recordA : OpenFile
+recordA = recordLikeA 0 4 6 12 2 2 5 2 6
+
+-- the record of A with the field at a place, counted from 0, one larger
+abbrev pub altered : ℕ → OpenFile
+altered i = let fields = allFields recordA in recordOf (set fields i (getD fields i 0 + 1))
+
+-- every place of a field
+abbrev pub eachField : List ℕ
+eachField = 0 ∷ following 0 43
+
+-- its rows: the record of an open file
+unfoldable pub recordExamples : List Row
+recordExamples =
+    -- A's record: totals 2, 6, and zeros. In the big order the same but for the order; as created no totals; of 10 bytes 1, and zeros
+    Q 5 (openFileOf A) (record { refusal = 0; file = recordA }) ∷
+    Q 5 (openFileOf bigA .file) (recordLikeA 1 4 6 12 2 2 5 2 6) ∷
+    Q 5 (openFileOf (created 6) .file) record0 ∷
+    Q 5 (openFileOf (following 0 10)) (record { refusal = 1; file = recordOf (replicate 44 0) }) ∷
+    -- lex1 2, gex 18: the totals of the sixteen capacities of Q-2
+    Q 5 (totalsOf (growthOf 2 18) 16) (2 ∷ 5 ∷ 11 ∷ 22 ∷ 42 ∷ 79 ∷ 147 ∷ 269 ∷ 489 ∷ 885 ∷ 1599 ∷ 2884 ∷ 5197 ∷ 9361 ∷ 16857 ∷ 30350 ∷ []) ∷
+    -- A's record is true of A. Each single field altered gives 27: to an append, a batch without entries and an update
+    Q 5 (heldRefusal A recordA) 0 ∷
+    Q 5 (map (λ i. appendThrough A (altered i) append3 .answer .refusal) eachField) (replicate 44 27) ∷
+    Q 5 (map (λ i. batchThrough A (altered i) (batchWith [] 0) .answer .refusal) eachField) (replicate 44 27) ∷
+    Q 5 (map (λ i. updateThrough A (altered i) (rewriting 4) .answer) eachField) (replicate 44 27) ∷
+    -- and changes nothing: the last total
+    Q 5 (appendThrough (after2 6) (altered 43) append3) (record { answer = record { refusal = 27; number = entry 0 }; held = altered 43; file = after2 6 }) ∷
+    -- the record of another state of the file is false too, and so is any record of a file that is refused
+    Q 5 (appendThrough A record2 append3 .answer .refusal) 27 ∷
+    Q 5 (appendThrough (following 0 10) (recordOf (replicate 44 0)) append3 .answer .refusal) 27 ∷
+    Q 5 (appendThrough (leftIn 20 A) recordA append3 .answer .refusal) 27 ∷
+    -- 27 comes before 21, 12 and 28, which a true record gives; 26 comes before 27
+    Q 5 (appendThrough A (altered 0) (handedIn (pos 1) [] [] [] [] []) .answer .refusal) 27 ∷
+    Q 5 (appendThrough A recordA (handedIn (pos 1) [] [] [] [] []) .answer .refusal) 21 ∷
+    Q 5 (updateThrough A (altered 0) (updateIn (entry 4) (pos 7) []) .answer) 27 ∷
+    Q 5 (updateThrough A recordA (updateIn (entry 4) (pos 7) []) .answer) 12 ∷
+    Q 5 (updateThrough A recordA (rewriting 5) .answer) 28 ∷
+    Q 5 (batchThrough A (altered 0) (batchWith [] 1) .answer) (ends 0 26) ∷
+    Q 5 (batchThrough A recordA (batchWith [] 0) .answer) (ends 0 0) ∷
+    -- append (3) through the record after append (2) makes an extension, and leaves A's record; with 5 records it gives 24, and the record stays
+    Q 5 (appendThrough (after2 6) record2 append3 .answer) (record { refusal = 0; number = entry 3 }) ∷
+    Q 5 (appendThrough (after2 6) record2 append3 .held) recordA ∷
+    Q 5 (appendThrough (after2 5) record2 append3 .answer .refusal) 24 ∷
+    Q 5 (appendThrough (after2 5) record2 append3 .held) record2 ∷
+    -- so do the three appends of A in one batch; with 5 records the record is that after two of them
+    Q 5 (batchThrough (created 6) record0 batchA .held) recordA ∷
+    Q 5 (batchThrough (created 5) record0 batchA .answer) (ends 2 24) ∷
+    Q 5 (batchThrough (created 5) record0 batchA .held) record2 ∷
+    -- an update leaves it
+    Q 5 (updateThrough A recordA (rewriting 4) .answer) 0 ∷
+    Q 5 (updateThrough A recordA (rewriting 4) .held) recordA ∷
+    []
+
 -- ---- Q-6
 
 -- the words that each write takes: the position of the first, and how many
@@ -269,10 +370,6 @@ writesExamples =
     []
 
 -- ---- Q-7
-
--- a file in which the last byte of word w, counted from the file's start, is 1
-abbrev pub leftIn : ℕ → List ℕ → List ℕ
-leftIn w file = withByte file (4 * w - 1) 1
 
 -- a new file of one record
 abbrev pub oneRecord : ℕ → List ℕ
@@ -317,4 +414,4 @@ leftoverExamples =
 
 -- those of all requests, in their order
 abbrev pub requestExamples : List (List Row)
-requestExamples = batchExamples ∷ growthExamples ∷ updateExamples ∷ orderExamples ∷ writesExamples ∷ leftoverExamples ∷ []
+requestExamples = batchExamples ∷ growthExamples ∷ updateExamples ∷ orderExamples ∷ recordExamples ∷ writesExamples ∷ leftoverExamples ∷ []

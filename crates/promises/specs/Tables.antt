@@ -22,10 +22,12 @@ use Rattle.batch.specs.Batch.{Batch, entriesIn}
 use Rattle.batch.specs.Rules.{batchRules}
 use Rattle.update.specs.Rules.{contentRules}
 use Rattle.update.specs.Answers.{Update, spaceOf, placeNamed}
+use Rattle.held.specs.declared.opening.OpenFile.{OpenFile}
+use Rattle.held.specs.Rules.{heldRules}
 
 -- ---- the tables
 
--- every call but creation and a batch tests 1 to 11 and 29 first; validating tests no more
+-- every call but creation, a batch and those through a record tests 1 to 11 and 29 first; validating tests no more
 abbrev pub validateTests : List ℕ → List Rule
 validateTests file = fileRules file (numbersOf file) (addressesOf file (numbersOf file .nex))
 
@@ -81,6 +83,24 @@ inTurnTests file (h ∷ hs) = appendTests file h ++ inTurnTests (fileAfter file 
 -- a batch tests 26 before them
 abbrev pub batchTests : List ℕ → Batch → List Rule
 batchTests file b = batchRules b ++ inTurnTests file (entriesIn b)
+
+-- through a record: an append tests 27, and then 21 to 24 on the numbers of the file
+abbrev pub appendToTests : List ℕ → OpenFile → Handed → List Rule
+appendToTests file held h = heldRules file held ++ appendRules (length file) (numbersOf file) h
+
+-- appends in turn to a file that is admitted test 21 to 24 for each, on the numbers of the file that the one before it left
+abbrev pub turnRows : List ℕ → List Handed → List Rule
+turnRows file [] = []
+turnRows file (h ∷ hs) = appendRules (length file) (numbersOf file) h ++ turnRows (fileAfter file h) hs
+
+-- a batch tests 26, and then 27, before them
+abbrev pub batchToTests : List ℕ → OpenFile → Batch → List Rule
+batchToTests file held b = batchRules b ++ heldRules file held ++ turnRows file (entriesIn b)
+
+-- an update tests 27, and then 12 to 20 and 28
+abbrev pub updateToTests : List ℕ → OpenFile → Update → List Rule
+updateToTests file held u =
+    heldRules file held ++ entryRows file (u .number) ++ sectionRows file (u .number) (u .identifier) ++ contentRules (length (u .content)) (spaceOf (placeNamed file u))
 
 -- the order check opens entry e, and adds 25
 abbrev pub orderTests : List ℕ → EntryNumber → List Rule

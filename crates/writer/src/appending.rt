@@ -8,6 +8,7 @@ ghost use Rattle.storing.specs.Handed.{handed};
 ghost use Rattle.writer.specs.Answers.{Appends};
 
 // The answer of `append`: the refusal, 0 when accepted, and the new entry's number, 0 when refused.
+#[repr(C)]
 pub struct Appended {
     pub refusal: u32,
     pub number: EntryNumber,

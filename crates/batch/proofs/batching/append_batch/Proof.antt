@@ -4,10 +4,11 @@ use mathlib.Core.Path.{_≡_, sym, ap, _∙_}
 use borrow.Author.Needs.{needs}
 use Rattle.descriptor.specs.declared.validating.Validation.{Validation}
 use Rattle.descriptor.proofs.Answered.{refusal-told}
+use Rattle.batch.specs.declared.inner.BatchedFrom.{BatchedFrom}
 use Rattle.batch.specs.Batch.{Batch, laidIn, batchIn}
 use Rattle.batch.specs.Rules.{batchRefusal}
 use Rattle.batch.proofs.Appending.{validates-told}
-use Rattle.batch.proofs.Whole.{refused, none, file-refused, in-turn}
+use Rattle.batch.proofs.Whole.{refused, none, file-refused, in-turn, file-in-turn}
 use Rattle.batch.proofs.batching.append_batch.Statement.{statement}
 use Rattle.batch.proofs.batching.append_batch.Tie as tie
 
@@ -57,7 +58,9 @@ returns-4 c =
     let r = c .before .before in
     let e = from-validate (r .before) .before .before in
     let s = began (e .before .before) in
-    in-turn (s .args .file .now) (given s) (holds (e .before)) _ _ (r .append-in-turn .ensures)
+    let file = s .args .file .now in
+    let a = r .append-in-turn .ensures in
+    (ap (λ (x : BatchedFrom). record { refusal = x .refusal; accepted = x .accepted }) (a .0) ∙ sym (in-turn file (given s) (holds (e .before))), a .1 ∙ sym (file-in-turn file (given s) (holds (e .before))))
 
 pub append-batch-spec : {M : Type 1} → statement M
 append-batch-spec =

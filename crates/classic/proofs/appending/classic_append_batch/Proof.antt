@@ -1,12 +1,10 @@
 -- `classic::appending::classic_append_batch` meets its contract. Assumes nothing.
-use mathlib.Core.Path.{ap}
-use Rattle.classic.specs.Answers.{batchedFor}
 use borrow.Author.Needs.{needs}
 use Rattle.classic.proofs.appending.classic_append_batch.Statement.{statement}
 use Rattle.classic.proofs.appending.classic_append_batch.Tie as tie
 
 returns : tie.Need-returns
-returns c = let made = c .before .before .append-batch .ensures in (ap batchedFor (made .0), made .1)
+returns c = c .before .before .append-batch .ensures
 
 pub classic-append-batch-spec : {M : Type 1} → statement M
 classic-append-batch-spec = tie.close (tie.spec (λ c κs. search needs) (λ c. search needs) returns)

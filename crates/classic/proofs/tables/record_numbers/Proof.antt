@@ -4,7 +4,6 @@ use Prim.Native.Nat.{_-_}
 use native.Mathlib.Omega.{arith}
 use Rattle.words.proofs.Table.{Filling, filling-none, filling-next}
 use Rattle.geometry.specs.declared.units.RecordNumber.{RecordNumber}
-use Rattle.classic.specs.Answers.{recordNumbers}
 use Rattle.classic.proofs.Filled.{place, all-filled}
 use Rattle.classic.proofs.tables.record_numbers.Statement.{statement}
 use Rattle.classic.proofs.tables.record_numbers.Tie as tie
@@ -13,7 +12,6 @@ abbrev Inv-loop : tie.InvT-loop
 Inv-loop table numbers₀ filled₀ numbers filled = Filling 16 16 (place (λ (r : RecordNumber). r .0) (record { 0 = 0 }) table) 0 numbers filled
 
 pub record-numbers-spec : {M : Type 1} → statement M
-unfolding recordNumbers
 record-numbers-spec =
     tie.close
     (tie.spec Inv-loop (λ table numbers₀ filled₀ numbers filled. 16 - filled) (λ c. filling-none) (λ c. omega arith) (λ c. omega arith) (λ c. omega arith) (λ c. omega arith) (λ c. omega arith) (λ c. omega arith)

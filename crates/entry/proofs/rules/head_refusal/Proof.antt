@@ -9,7 +9,7 @@ use lib.Dec.{leb, eqb}
 use mir.Syntax.{w32, w64}
 use Rattle.words.specs.Word.{integer4, integer8, signedOf}
 use Rattle.words.specs.Range.{within, atLeast}
-use Rattle.words.specs.Code.{sameBytes}
+use Rattle.words.specs.Code.{sameNumbers}
 use Rattle.words.proofs.Ranges.{within-bounds, atLeast-bounds}
 use Rattle.descriptor.specs.Refusal.{Rule}
 use Rattle.descriptor.specs.FirstRecord.{freeOf}
@@ -26,7 +26,7 @@ abbrev rules : tie.Start → List Rule
 rules s = headRules (s .args .file .now) (s .args .d) (s .args .start) (s .args .number)
 
 -- the tests of the code are those of the table, and the places behind them
-code : (c : tie.After-code-at) → let a = c .before .before .before .before .args in c .code-at .result ≡ sameBytes (entryCodeOf (a .file .now) (a .start)) entryCode
+code : (c : tie.After-code-at) → let a = c .before .before .before .before .args in c .code-at .result ≡ sameNumbers (entryCodeOf (a .file .now) (a .start)) entryCode
 unfolding entryCodeOf
 code c = rw (c .before .byte-offset .ensures, c .before .before .entry-position .ensures) at (c .code-at .ensures)
 

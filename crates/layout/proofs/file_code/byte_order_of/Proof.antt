@@ -1,18 +1,18 @@
 -- `layout::file_code::byte_order_of` meets its contract: the file's code is compared with the one and the other. Assumes nothing.
 use mathlib.Core.Path.{_≡_, sym, _∙_}
-use Rattle.words.specs.Code.{sameBytes}
+use Rattle.words.specs.Code.{sameNumbers}
 use Rattle.layout.specs.FileCode.{littleCode, bigCode, orderSaid, fileCodeOf}
 use borrow.Author.Needs.{needs}
 use Rattle.layout.proofs.file_code.byte_order_of.Statement.{statement}
 use Rattle.layout.proofs.file_code.byte_order_of.Tie as tie
 
 -- the first comparison
-little : (c : tie.After-code-at) → c .code-at .result ≡ sameBytes (fileCodeOf (c .before .before .before .args .file .now)) littleCode
+little : (c : tie.After-code-at) → c .code-at .result ≡ sameNumbers (fileCodeOf (c .before .before .before .args .file .now)) littleCode
 unfolding fileCodeOf
 little c = rw (c .before .first-record-offset .ensures) at (c .code-at .ensures)
 
 -- the second
-big : (c : tie.After-code-at2) → c .code-at2 .result ≡ sameBytes (fileCodeOf (c .before .before .before .before .before .args .file .now)) bigCode
+big : (c : tie.After-code-at2) → c .code-at2 .result ≡ sameNumbers (fileCodeOf (c .before .before .before .before .before .args .file .now)) bigCode
 unfolding fileCodeOf
 big c = rw (c .before .before .before .first-record-offset .ensures) at (c .code-at2 .ensures)
 

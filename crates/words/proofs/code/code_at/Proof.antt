@@ -8,7 +8,7 @@ use borrow.Author.Tests.{eq-eqb, ne-eqb}
 use lib.Dec.{eqb}
 use lib.ListN.{getD}
 use Rattle.image.specs.Image.{part}
-use Rattle.words.specs.Code.{sameBytes}
+use Rattle.words.specs.Code.{sameNumbers}
 use Rattle.words.proofs.Codes.{same-four}
 use Rattle.words.proofs.code.code_at.Statement.{statement}
 use Rattle.words.proofs.code.code_at.Tie as tie
@@ -18,7 +18,7 @@ abbrev begin : tie.Else2 → tie.Start
 begin c = c .before .before .before .before
 
 whole : (s : tie.Start) → let a = s .args in
-    sameBytes (part (a .image .now) (a .at) 4) (a .a ∷ a .b ∷ a .c ∷ a .d ∷ [])
+    sameNumbers (part (a .image .now) (a .at) 4) (a .a ∷ a .b ∷ a .c ∷ a .d ∷ [])
     ≡ eqb (getD (a .image .now) (a .at) 0) (a .a) && (eqb (getD (a .image .now) (a .at + 1) 0) (a .b) && (eqb (getD (a .image .now) (a .at + 2) 0) (a .c) && (eqb (getD (a .image .now) (a .at + 3) 0) (a .d) && true)))
 whole s = same-four _ _ _ _ _ _ (s .pre)
 

@@ -1,6 +1,6 @@
--- `batch::batching::append_in_turn` meets its contract. The loop's invariant: what the batch does is what its entries from here on do to the file as it is, and
+-- `batch::inner::append_in_turn` meets its contract. The loop's invariant: what the batch does is what its entries from here on do to the file as it is, and
 -- the numbers and addresses at hand are the file's. Assumes nothing.
-use mathlib.Core.Path.{_≡_, refl}
+use mathlib.Core.Path.{_≡_, refl, _∙_}
 use Prim.Native.Nat.{_-_}
 use native.Mathlib.Omega.{arith}
 use borrow.Author.Needs.{needs}
@@ -12,8 +12,8 @@ use Rattle.written.proofs.ReadBack.{shows}
 use Rattle.batch.specs.Batch.{Batch, laidIn, batchIn}
 use Rattle.batch.specs.Turn.{AppendsNext}
 use Rattle.batch.proofs.InTurn.{Before, before-first, counts, version, entry-reached, ended, before-next, all-accepted}
-use Rattle.batch.proofs.batching.append_in_turn.Statement.{statement}
-use Rattle.batch.proofs.batching.append_in_turn.Tie as tie
+use Rattle.batch.proofs.inner.append_in_turn.Statement.{statement}
+use Rattle.batch.proofs.inner.append_in_turn.Tie as tie
 
 abbrev Inv-loop : tie.InvT-loop
 Inv-loop file₀ versions counts index ids lengths sections values turn₀ accepted₀ file turn accepted =
@@ -33,7 +33,7 @@ given c =
     batchIn (now (a .versions)) (now (a .counts)) (laidIn (now (a .index)) (now (a .ids)) (now (a .lengths)) (now (a .sections)) (now (a .values)))
 
 loop-holds : tie.Need-loop-holds Inv-loop μ-loop
-loop-holds c = (refl, before-first _ _ _ (c .begin .ensures) (began c .pre .0) (began c .pre .1))
+loop-holds c = (refl, before-first _ _ _ refl (c .begin .ensures) (began c .pre .0) (began c .pre .1))
 
 -- the turn that a place is in
 abbrev turn : tie.After-row Inv-loop μ-loop → tie.In-loop Inv-loop μ-loop
@@ -55,9 +55,10 @@ appends c =
 
 returns : tie.Need-returns Inv-loop μ-loop
 returns c =
-    let r = c .before .before .before .before in
+    let r = c .before .before .before .before .before in
     let t = turn (r .before .before) in
-    ended _ _ (t .before .loop .inv .1) (t .loop-test .taken) _ _ (appends r) (c .if1 .taken)
+    let e = ended _ _ (t .before .loop .inv .1) (t .loop-test .taken) _ _ (appends r) (c .before .if1 .taken) in
+    (c .ended .ensures ∙ e .0, e .1)
 
 -- the append behind which an entry was accepted
 abbrev behind : tie.Else1 Inv-loop μ-loop → tie.After-append-next Inv-loop μ-loop
@@ -76,7 +77,9 @@ loop-again c =
     (omega arith, before-next _ _ (t .before .loop .inv .1) (t .loop-test .taken) _ _ (appends r) (c .if1 .left))
 
 returns-2 : tie.Need-returns-2 Inv-loop μ-loop
-returns-2 c = all-accepted _ _ (c .before .loop .inv .1) (c .loop-test .left)
+returns-2 c =
+    let e = all-accepted _ _ (c .before .before .loop .inv .1) (c .before .loop-test .left) in
+    (c .ended2 .ensures ∙ e .0, e .1)
 
 pub append-in-turn-spec : {M : Type 1} → statement M
 append-in-turn-spec =
@@ -91,10 +94,12 @@ append-in-turn-spec =
     (λ c. search needs)
     (λ c. search needs)
     append-next-requires
+    (λ c κs. search needs)
     (λ c. search needs)
     returns
     add-accepted
     (λ c. omega arith)
     loop-again
+    (λ c κs. search needs)
     (λ c. search needs)
     returns-2)

@@ -1,4 +1,4 @@
--- `update::updating::rewrite` meets its contract: two writes side by side are one. Assumes nothing.
+-- `update::inner::rewrite` meets its contract: two writes side by side are one. Assumes nothing.
 use Prim.Native.Nat.{ℕ, _+_, _-_}
 use mathlib.Core.Path.{_≡_, refl, ap, _∙_}
 use mathlib.Core.List.{List}
@@ -6,8 +6,8 @@ use lib.ListN.{length}
 use Rattle.image.specs.Image.{splice, zeros}
 use Rattle.image.proofs.Splice.{splice-adjacent}
 use borrow.Author.Needs.{needs}
-use Rattle.update.proofs.updating.rewrite.Statement.{statement}
-use Rattle.update.proofs.updating.rewrite.Tie as tie
+use Rattle.update.proofs.inner.rewrite.Statement.{statement}
+use Rattle.update.proofs.inner.rewrite.Tie as tie
 
 returns : tie.Need-returns
 returns c =

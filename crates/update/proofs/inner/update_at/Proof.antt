@@ -1,4 +1,4 @@
--- `update::updating::update_at` meets its contract: refused as the place is, by 28, or not at all. Assumes nothing.
+-- `update::inner::update_at` meets its contract: refused as the place is, by 28, or not at all. Assumes nothing.
 use mathlib.Core.Path.{_≡_, sym, _∙_}
 use native.Mathlib.Omega.{arith}
 use denote.Ref.{now}
@@ -7,8 +7,8 @@ use Rattle.image.specs.Image.{splice}
 use Rattle.update.specs.Answers.{spaceOf, padded, updateAt}
 use Rattle.update.proofs.Contents.{content-fits, place-first, content-next, refused, not-refused}
 use borrow.Author.Needs.{needs}
-use Rattle.update.proofs.updating.update_at.Statement.{statement}
-use Rattle.update.proofs.updating.update_at.Tie as tie
+use Rattle.update.proofs.inner.update_at.Statement.{statement}
+use Rattle.update.proofs.inner.update_at.Tie as tie
 
 -- where the function begins, before anything is known of its slices
 abbrev begin : tie.After-struct-known → tie.Start
