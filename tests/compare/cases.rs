@@ -54,7 +54,7 @@ const PLAN: [(usize, Kind); 40] = [
     (6, held::wrong_counts),
     (8, held::grown),
     (3, held::great_totals),
-    (52, held::both_ways),
+    (39, held::both_ways),
     (SERIES, series::of_appends),
     (BATCH_SERIES, series::with_batches),
     (UPDATE_SERIES, series::with_updates),

@@ -1,3 +1,5 @@
--- Laws of calls through a record: what an append, a batch and an update leave of a file that the record is true of.
+-- Laws of calls through a record: what an append and appends in turn leave of a file that validates; what a call through a record comes to by its refusals; and what
+-- the functions give that work from the record.
 pub mod Kept
 pub mod Outcomes
+pub mod Given
