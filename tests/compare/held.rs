@@ -1,5 +1,6 @@
 //! The cases of calls through a record of the open file: each field not true, records of other files, files that are
-//! refused, wrong counts, extensions up to the last, and what other cases ask, through a record as without one.
+//! refused, wrong counts, extensions up to the last and the greatest totals, and what other cases ask, through a record
+//! as without one.
 
 use crate::additions::{addition, spoil};
 use crate::batches::{self, lend_created, lend_made, records_for};
@@ -65,7 +66,7 @@ fn lend_admitted(random: &mut Random, script: &mut Script) -> i32 {
     made.settings.lind
 }
 
-/// An append, a batch and an update through a record, good or bad, but not with wrong counts, and a batch of no entries.
+/// An append, a batch and an update through a record, good or bad but not with wrong counts, and a batch of no entries.
 fn calls(random: &mut Random, script: &Script, lind: i32) -> [Call; 4] {
     let mut a = addition(random, lind);
     let count = random.from(1, 2);
@@ -306,8 +307,8 @@ pub fn grown(random: &mut Random, script: &mut Script) {
     assert_eq!(refusal, 23, "the reference does not fill all extensions");
 }
 
-/// Files whose 15 extensions are full, with over 65,536 entries in 16: an append and a batch through the record make the
-/// last.
+/// Files whose 15 extensions are full, and which hold over 65,536 entries in 16: an append and a batch through the
+/// record make the last.
 pub fn great_totals(random: &mut Random, script: &mut Script) {
     let (reclen, lind, gex) = (random.pick(&[46, 64, 128]), 3, [11, 12, 13][script.turn % 3]);
     let s = Settings { reclen, lind, lex1: greatest_lex1(gex, 16), gex, ..files::settings(random, script.order) };

@@ -69,7 +69,7 @@ pub struct Asked {
 }
 
 /// A case as it grows: the order of its files, and its place among the cases of its kind and order; the driver's
-/// message, the calls asked so far, the file as lent and as it is now, the record that is held, and how calls go through
+/// message, the calls asked so far, the file as lent and as it is now, the record that is held and how calls go through
 /// one; and, where a call is watched, the file before it.
 pub struct Script {
     pub order: Order,

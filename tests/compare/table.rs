@@ -115,7 +115,7 @@ const CONTENTS: [&str; 4] = ["empty", "not whole words", "more than any section 
 /// How often something was seen in each order, by the order's number.
 type Seen = [usize; 2];
 
-/// How often each cell, each way of a call's refusal, each way at a place in a batch, and each refusal of an update with
+/// How often each cell, each way of a call's refusal, each way at a place in a batch, and each refusal of an update by
 /// a kind of content was seen; a call is known by its place in CALLS.
 #[derive(Default)]
 pub struct Table {
