@@ -14,6 +14,7 @@ use Rattle.writer.specs.Rules.{appendRefusal}
 use Rattle.writer.specs.Answers.{appendedFrom, appendIn, appendOf, fileAfter}
 use Rattle.outcome.proofs.Either.{either}
 use Rattle.promises.proofs.Scan.{by-file}
+use Rattle.promises.proofs.RefusalMeans.{append-behind}
 use Rattle.promises.proofs.RefusedAnswers.{append-kept}
 
 module _ (file : List ℕ) (h : Handed) where
@@ -23,10 +24,8 @@ module _ (file : List ℕ) (h : Handed) where
 
   -- is what it answers
   pub answer-there : fileRefusal file ≡ 0 → appendOf file h .refusal ≡ refusalThere
-  unfolding appendIn appendedFrom
-  answer-there z =
-      rw (answer-numbers file z)
-      (either (eqb refusalThere 0) (λ q. rw q (sym (eqb-true refusalThere 0 q))) (λ q. rw q))
+  unfolding appendRefusal
+  answer-there = append-behind file h
 
   -- an append that is accepted was one to an admitted file
   pub accepted-file : appendOf file h .refusal ≡ 0 → fileRefusal file ≡ 0

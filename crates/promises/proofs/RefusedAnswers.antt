@@ -131,10 +131,15 @@ module _ (file : List ℕ) (h : Handed) where
   pub append-kept : (appendOf file h .refusal ≡ 0 → ⊥) → fileAfter file h ≡ file
   append-kept f = append-by (validationOf file .numbers) (validationOf file .addresses) f .1
 
+-- the refusal of a batch as a whole is 26
+pub whole-26 : (b : Batch) → (batchRefusal b ≡ 0 → ⊥) → batchRefusal b ≡ 26
+unfolding batchRefusal
+whole-26 b f = refusal-among (λ n. n ≡ 26) (batchRules b) (omega arith) f
+
 -- a batch that is refused as a whole answers 26, and accepts none
 pub batch-refused : (file : List ℕ) (b : Batch) → (batchRefusal b ≡ 0 → ⊥) → batchOf file b ≡ record { refusal = 26; accepted = 0 }
-unfolding batchOf batchRefusal
-batch-refused file b f = rw (refusal-among (λ n. n ≡ 26) (batchRules b) (omega arith) f)
+unfolding batchOf
+batch-refused file b f = rw (whole-26 b f)
 
 -- and changes no byte
 pub batch-kept : (file : List ℕ) (b : Batch) → (batchRefusal b ≡ 0 → ⊥) → fileAfterBatch file b ≡ file
