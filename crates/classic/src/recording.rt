@@ -1,7 +1,9 @@
-// The record of an open file, and appending and updating through it, for C.
+// The record of an open file, and appending and updating through it where it is lent.
 //
-// The record and the answers are those of the crates below, which are laid out as C has them; the number
-// of an entry is a struct of one number, which C passes as that number.
+// The record and the answers are those of the crates below, which are laid out as C has them, and the number
+// of an entry is a struct of one number, which C passes as that number. So each call has one function for
+// C and for Rattle, where its name has no `classic_`: it hands the record to the call of `through`, by
+// value, and stores what that answers as the record where the record stands.
 use batch::Batched;
 use geometry::EntryNumber;
 use held::OpenFile;
