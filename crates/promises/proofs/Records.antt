@@ -1,32 +1,42 @@
 -- Calls through a record of the open file (Q-5 of 02): through a true record they equal those without it, and leave a true one; through a false one they are refused
--- with 26 or 27, and change neither record nor file. So demand 3 holds of a series through the record of its file. Assumes nothing.
+-- with 26 or 27, and change neither record nor file; and none gives a refusal of the file's own. So demand 3 holds of a series through the record of its file. Assumes nothing.
 use Prim.Native.Nat.{ℕ}
 use mathlib.Core.Path.{_≡_, refl, sym, ap, ap₂, _∙_}
-use mathlib.Core.List.{List, [], _∷_}
+use mathlib.Core.List.{List, [], _∷_, _++_}
+use native.Mathlib.Omega.{arith}
 use borrow.Author.Tests.{eqb-true, eqb-false}
 use lib.Dec.{eqb}
+use lib.ListN.{length}
 use Rattle.outcome.proofs.Either.{either}
 use Rattle.geometry.specs.declared.units.RecordNumber.{RecordNumber}
 use Rattle.descriptor.specs.declared.numbers.DescriptorNumbers.{DescriptorNumbers}
+use Rattle.descriptor.specs.FirstRecord.{numbersOf}
 use Rattle.descriptor.specs.Rules.{fileRefusal}
 use Rattle.descriptor.specs.Answers.{Validates}
 use Rattle.descriptor.proofs.Answered.{answer-numbers}
+use Rattle.storing.specs.Handed.{Handed}
+use Rattle.writer.specs.Rules.{appendRules}
+use Rattle.writer.specs.Answers.{fileAfter}
 use Rattle.batch.specs.Batch.{entriesIn}
-use Rattle.batch.specs.Rules.{batchRefusal}
+use Rattle.batch.specs.Rules.{batchRules, batchRefusal}
 use Rattle.batch.specs.Answers.{batchOf, fileAfterBatch}
+use Rattle.update.specs.Rules.{contentRules}
+use Rattle.update.specs.Answers.{spaceOf, placeNamed}
 use Rattle.updated.proofs.Rewritten.{update-kept}
 use Rattle.updated.proofs.EntryAfter.{update-validates}
 use Rattle.held.specs.declared.opening.OpenFile.{OpenFile}
 use Rattle.held.specs.declared.opening.OpenFileAnswer.{OpenFileAnswer}
 use Rattle.held.specs.Record.{openFileOf, TrueOf}
-use Rattle.held.specs.Rules.{heldRefusal}
+use Rattle.held.specs.Rules.{heldRules, heldRefusal}
 use Rattle.held.proofs.Held.{held-true, true-held, held-27, validated-record, true-shown}
-use Rattle.through.specs.Answers.{Outcome, stays, leaving, noAppend, noBatch}
+use Rattle.through.specs.Answers.{Outcome, stays, leaving, noAppend, noBatch, appendThrough, batchThrough, updateThrough}
 use Rattle.through.proofs.Kept.{append-validates, turns-validate}
 use Rattle.through.proofs.Outcomes.{append-refused, batch-refused, update-refused, batch-counted, append-done, batch-done, update-done}
 use Rattle.promises.specs.Calls.{Call, append, batch, update, AllFit, Answer, appended, batched, updated, refusalOf, countOf, answerOf, afterCall, run, answers}
+use Rattle.promises.specs.Tables.{entryRows, sectionRows, appendToTests, turnRows, batchToTests, updateToTests}
 use Rattle.promises.specs.Demand.{Start, Promised}
-use Rattle.promises.specs.Records.{withAnswer, callThrough, runThrough, answersThrough, TrueThroughout}
+use Rattle.promises.specs.Records.{withAnswer, callThrough, runThrough, answersThrough, TrueThroughout, PastFile}
+use Rattle.promises.proofs.RefusalMeans.{EachNumber, given-among, each-joined, append-to-means, batch-to-means, update-to-means}
 use Rattle.promises.proofs.RefusedAnswers.{append-kept, whole-26}
 use Rattle.promises.proofs.Batches.{batch-none}
 use Rattle.promises.proofs.OrderSound.{order-sound}
@@ -138,6 +148,32 @@ module _ (file : List ℕ) (held : OpenFile) where
         let same : afterCall file c ≡ file = call-kept file c some none in
         (ap (λ (f : List ℕ). openFileOf f .file) same ∙ sym (t .same), same)))
         (λ f some none. through-stays f)
+
+-- ---- the numbers of refusals
+
+-- the rows of appends in turn have none of a file's own
+turns-late : (hs : List Handed) (file : List ℕ) → EachNumber PastFile (turnRows file hs)
+turns-late [] file = tt
+turns-late (h ∷ hs) file = each-joined PastFile (appendRules (length file) (numbersOf file) h) (turnRows (fileAfter file h) hs) (omega arith) (turns-late hs (fileAfter file h))
+
+-- a call through a record gives none of 1 to 11 and 29
+pub through-late : (file : List ℕ) (held : OpenFile) (c : Call) → let n = refusalOf (callThrough file held c .answer) in (n ≡ 0 → ⊥) → PastFile n
+through-late file held (append h) some =
+    let n = appendThrough file held h .answer .refusal in
+    given-among PastFile n (appendToTests file held h) (omega arith) (append-to-means file held h .given n (omega (arith, some)) refl)
+through-late file held (batch b) some =
+    let n = batchThrough file held b .answer .refusal in
+    let rest = heldRules file held ++ turnRows file (entriesIn b) in
+    given-among PastFile n (batchToTests file held b)
+    (each-joined PastFile (batchRules b) rest (omega arith) (each-joined PastFile (heldRules file held) (turnRows file (entriesIn b)) (omega arith) (turns-late (entriesIn b) file)))
+    (batch-to-means file held b .given n (omega (arith, some)) refl)
+through-late file held (update u) some =
+    let n = updateThrough file held u .answer in
+    let e = u .number in
+    let more = sectionRows file e (u .identifier) ++ contentRules (length (u .content)) (spaceOf (placeNamed file u)) in
+    given-among PastFile n (updateToTests file held u)
+    (each-joined PastFile (heldRules file held) (entryRows file e ++ more) (omega arith) (each-joined PastFile (entryRows file e) more (omega arith) (omega arith)))
+    (update-to-means file held u .given n (omega (arith, some)) refl)
 
 -- ---- a series
 

@@ -1,8 +1,9 @@
 -- What a refusal means: each call answers by the whole table of its tests. So k is given exactly when a test of number k fails
 -- and every earlier one passes. The order check is in CheckMeans. Assumes nothing.
 use Prim.Native.Nat.{ℕ, _+_}
-use mathlib.Core.Path.{_≡_, refl, sym, ap, _∙_}
+use mathlib.Core.Path.{_≡_, refl, sym, ap, subst, _∙_}
 use mathlib.Core.Bool.{Bool, true, false, cond}
+use mathlib.Core.Logic.{inl, inr}
 use mathlib.Core.List.{List, [], _∷_, _++_}
 use native.Mathlib.Omega.{arith}
 use borrow.Author.Tests.{eqb-true, eqb-false}
@@ -84,6 +85,17 @@ EachNumber P (r ∷ rs) = P (r .number) × EachNumber P rs
 pub refusal-among : (P : ℕ → Type 0) (rules : List Rule) → EachNumber P rules → (refusalIn rules ≡ 0 → ⊥) → P (refusalIn rules)
 refusal-among P [] m f = absurd (f refl)
 refusal-among P (r ∷ rs) m f = either (r .holds) (λ q. rw q (refusal-among P rs (m .1) (λ z. f (rw q z)))) (λ q. rw q (m .0))
+
+-- and so has a number that a table gives
+pub given-among : (P : ℕ → Type 0) (k : ℕ) (rules : List Rule) → EachNumber P rules → Given k rules → P k
+given-among P k [] m g = absurd g
+given-among P k (r ∷ rs) m (inl g) = subst P (g .0) (m .0)
+given-among P k (r ∷ rs) m (inr g) = given-among P k rs (m .1) (g .1)
+
+-- of two tables joined, where it holds of each
+pub each-joined : (P : ℕ → Type 0) (rows more : List Rule) → EachNumber P rows → EachNumber P more → EachNumber P (rows ++ more)
+each-joined P [] more m n = n
+each-joined P (r ∷ rs) more m n = (m .0, each-joined P rs more (m .1) n)
 
 -- a number that is given exactly by a table is its refusal
 exact-number : (n : ℕ) (rules : List Rule) → Numbered rules → Exactly n rules → n ≡ refusalIn rules

@@ -1,6 +1,7 @@
 -- Calls through a record of the open file (Q-5 of 02): what one comes to, of any kind, and what a series comes to that goes through one record.
+use Prim.Native.Nat.{ℕ, _≤_}
+use mathlib.Core.Path.{_≡_}
 use mathlib.Core.List.{List, [], _∷_}
-use Prim.Native.Nat.{ℕ}
 use Rattle.held.specs.declared.opening.OpenFile.{OpenFile}
 use Rattle.held.specs.Record.{TrueOf}
 use Rattle.through.specs.Answers.{Outcome, appendThrough, batchThrough, updateThrough}
@@ -30,3 +31,7 @@ answersThrough (c ∷ cs) held file = let x = callThrough file held c in x .answ
 abbrev pub TrueThroughout : List Call → OpenFile → List ℕ → Type 0
 TrueThroughout [] held file = TrueOf file held
 TrueThroughout (c ∷ cs) held file = let x = callThrough file held c in TrueOf file held × TrueThroughout cs (x .held) (x .file)
+
+-- a refusal that is none of a file's own, 1 to 11 and 29
+abbrev pub PastFile : ℕ → Type 0
+PastFile n = (12 ≤ n) × (n ≡ 29 → ⊥)
