@@ -16,9 +16,10 @@ typedef struct {
     size_t ldata;
 } addition;
 
-/* The file at hand. No example is larger. */
+/* The file at hand, and the record of it that the calls below keep. No example is larger. */
 static uint8_t file[4096];
 static size_t bytes, reclen, lind;
+static classic_open_file held;
 
 /* Ends the program with a message. */
 static void give_up(const char *what, uint32_t refusal) {
@@ -36,7 +37,7 @@ static void count_up(uint8_t *at, size_t words, uint32_t first) {
     for (size_t i = 0; i < words; i++) put4(at + 4 * i, first + (uint32_t)i);
 }
 
-/* Creates the file with so many records. */
+/* Creates the file with so many records, and opens its record. */
 static void create(size_t records, classic_settings settings) {
     reclen = (size_t)settings.reclen;
     lind = (size_t)settings.lind;
@@ -44,6 +45,9 @@ static void create(size_t records, classic_settings settings) {
     memset(file, 0, sizeof file);
     uint32_t refusal = classic_create(file, bytes, settings);
     if (refusal != 0) give_up("the creation is refused", refusal);
+    classic_open_file_answer opened = classic_open_file_of(file, bytes);
+    if (opened.refusal != 0) give_up("the new file is refused", opened.refusal);
+    held = opened.file;
 }
 
 /* Lays what entry k is given, and its row of counts. Its index words count up from 100 k, its sections from 1,000 k and
@@ -60,20 +64,20 @@ static void lay(const addition *a, uint32_t k, uint8_t *index, uint8_t *sections
     counts[4] = 4 * a->ldata;
 }
 
-/* Appends entries, each by a call of its own. */
+/* Appends entries, each by a call of its own through the record. */
 static void append(const addition *additions, uint32_t count) {
     uint8_t index[64], sections[64], data[64];
     uint64_t counts[5];
     for (uint32_t k = 1; k <= count; k++) {
         const addition *a = &additions[k - 1];
         lay(a, k, index, sections, data, counts);
-        classic_appended appended = classic_append(file, bytes, a->version, index, counts[0], a->ids, counts[1],
-                                                   a->lengths, counts[2], sections, counts[3], data, counts[4]);
+        classic_appended appended = classic_append_to(&held, file, bytes, a->version, index, counts[0], a->ids, counts[1],
+                                                      a->lengths, counts[2], sections, counts[3], data, counts[4]);
         if (appended.refusal != 0) give_up("an append is refused", appended.refusal);
     }
 }
 
-/* Appends up to 16 entries by one call: each kind is laid end to end. */
+/* Appends up to 16 entries by one call through the record: each kind is laid end to end. */
 static void append_together(const addition *additions, uint32_t count) {
     uint8_t index[1024], sections[1024], data[1024];
     int32_t versions[16], ids[32];
@@ -91,17 +95,17 @@ static void append_together(const addition *additions, uint32_t count) {
         section_bytes += counts[k - 1][3];
         data_bytes += counts[k - 1][4];
     }
-    classic_batched batched =
-        classic_append_batch(file, bytes, versions, count, (const uint64_t(*)[5])counts, count, index, index_bytes, ids,
-                             sections_before, lengths, sections_before, sections, section_bytes, data, data_bytes);
+    classic_batched batched = classic_append_batch_to(&held, file, bytes, versions, count, (const uint64_t(*)[5])counts,
+                                                      count, index, index_bytes, ids, sections_before, lengths,
+                                                      sections_before, sections, section_bytes, data, data_bytes);
     if (batched.refusal != 0) give_up("a batch is refused", batched.refusal);
 }
 
-/* Rewrites a section of an entry with up to 16 words that count up from a first one. */
+/* Rewrites a section of an entry through the record with up to 16 words that count up from a first one. */
 static void update(uint64_t entry, int32_t identifier, size_t words, uint32_t first) {
     uint8_t content[64];
     count_up(content, words, first);
-    uint32_t refusal = classic_update(file, bytes, entry, identifier, content, 4 * words);
+    uint32_t refusal = classic_update_to(&held, file, bytes, entry, identifier, content, 4 * words);
     if (refusal != 0) give_up("an update is refused", refusal);
 }
 
