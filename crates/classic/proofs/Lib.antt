@@ -2,4 +2,5 @@
 pub mod Filled
 pub mod Narrow
 pub mod Crossing
+pub mod Lent
 pub mod Examples

@@ -2,9 +2,7 @@
 use Prim.Native.Nat.{ℕ}
 use mathlib.Core.Path.{_≡_, refl, sym, ap, subst, _∙_}
 use mathlib.Core.List.{List}
-use lib.IntN.{ℤ}
 use lib.ListN.{length}
-use Rattle.geometry.specs.declared.units.EntryNumber.{EntryNumber}
 use Rattle.geometry.specs.declared.units.RecordNumber.{RecordNumber}
 use Rattle.descriptor.specs.declared.numbers.DescriptorNumbers.{DescriptorNumbers}
 use Rattle.descriptor.specs.declared.validating.Validation.{Validation}
@@ -12,7 +10,7 @@ use Rattle.descriptor.specs.Answers.{validationOf, Validates}
 use Rattle.descriptor.specs.Bounds.{AdmittedIn}
 use Rattle.descriptor.proofs.Answered.{told}
 use Rattle.handing.specs.declared.place.PartPlace.{PartPlace}
-use Rattle.handing.specs.Parts.{sectionPart, partIn, sectionWordsOf}
+use Rattle.handing.specs.Parts.{sectionPart, partIn}
 use Rattle.storing.specs.Handed.{Handed}
 use Rattle.writer.specs.declared.inner.AppendedFrom.{AppendedFrom}
 use Rattle.writer.specs.Answers.{appendedFrom, fileAfter, AppendsFrom}
@@ -22,7 +20,7 @@ use Rattle.batch.specs.Rules.{batchRefusal}
 use Rattle.batch.specs.Answers.{fileInTurn, batchedFrom, AppendsInTurn}
 use Rattle.batch.proofs.Appending.{file-from}
 use Rattle.batch.proofs.Whole.{in-turn, file-in-turn}
-use Rattle.update.specs.Answers.{Update, updateAt, fileAt, placeNamed, fileAfterUpdate, UpdatesAt}
+use Rattle.update.specs.Answers.{Update, updateAt, fileAt, placeNamed, UpdatesAt}
 use Rattle.update.specs.Bounds.{Writable}
 use Rattle.update.proofs.Places.{named-writable}
 use Rattle.updated.proofs.EntryAfter.{update-validates}

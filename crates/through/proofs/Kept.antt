@@ -1,6 +1,6 @@
 -- What a call leaves of a file that validates with numbers and addresses at hand: the file validates again, with numbers that grow as before. Assumes nothing.
 use Prim.Native.Nat.{ℕ}
-use mathlib.Core.Path.{_≡_, refl, sym, ap, _∙_}
+use mathlib.Core.Path.{_≡_, refl, _∙_}
 use mathlib.Core.List.{List, [], _∷_}
 use borrow.Author.Tests.{eqb-true, eqb-false}
 use lib.Dec.{eqb}
@@ -10,12 +10,12 @@ use Rattle.geometry.specs.declared.growth.Growth.{Growth}
 use Rattle.geometry.specs.declared.units.RecordNumber.{RecordNumber}
 use Rattle.descriptor.specs.declared.numbers.DescriptorNumbers.{DescriptorNumbers}
 use Rattle.descriptor.specs.FirstRecord.{growthIn}
-use Rattle.descriptor.specs.Answers.{validationOf, validatedCase, Validates}
+use Rattle.descriptor.specs.Answers.{Validates}
 use Rattle.placing.specs.Placing.{numbersAfter}
 use Rattle.storing.specs.Handed.{Handed}
 use Rattle.writer.specs.declared.inner.AppendedFrom.{AppendedFrom}
 use Rattle.writer.specs.Rules.{appendRefusal}
-use Rattle.writer.specs.Answers.{appendedFrom, fileFrom, appendIn, appendOf, fileAfter}
+use Rattle.writer.specs.Answers.{appendedFrom, appendIn, appendOf, fileAfter}
 use Rattle.written.proofs.ReadBack.{shows}
 use Rattle.batch.specs.Answers.{fileInTurn, batchedFrom}
 use Rattle.batch.proofs.Appending.{file-from, stays-from, validates-from}

@@ -30,7 +30,7 @@ use denote.Memory.{mem}
 use denote.Laws.{Is, shows}
 use denote.Builtin.{u8, u64, i32, i64}
 use denote.Ref.{RefT, MutRef, ptr-vals, mut-tells}
-use denote.Slice.{sliceVal, slice-vals, mut-slice-tells, shr-slice-tells, shr-slice-copy, MutSlice, ShrSlice, Room, finally}
+use denote.Slice.{slice-vals, mut-slice-tells, shr-slice-tells, shr-slice-copy, MutSlice, ShrSlice, Room, finally}
 use denote.Steps.{only, opens, closes, owned, peeks, heard, nothing}
 use denote.Struct.Steps.{spelt}
 use denote.Struct.Laws as LL
@@ -58,13 +58,11 @@ use Rattle.through.proofs.append_batch_through as by-value
 use Rattle.through.proofs.append_batch_through.Symbol as by-value-def
 use Rattle.through.proofs.append_batch_through.Symbol.{name as #through·append-batch-through}
 use Rattle.through.proofs.append_batch_through.Met as by-value-thm
+use Rattle.classic.proofs.Lent.{R, mach, sl}
 use Rattle.classic.proofs.recording.classic_append_batch_to.Key.{name as #classic·classic-append-batch-to}
 use Rattle.classic.proofs.recording.classic_append_batch_to as lent
 use Rattle.classic.proofs.recording.classic_append_batch_to.Statement as stated
 use Rattle.classic.proofs.recording.classic_append_batch_to.Code as code
-
-abbrev R : RattleType
-R = T.the-row
 
 abbrev stayed : Stays (lent.ended .signature .params) (lent.ended .kept)
 stayed = (stay-ref (0 ∷ []) tt (plain (λ _. R)), (gave-slice (1 ∷ []) tt (plain (λ _. u8)), (stay-none-slice (2 ∷ []) tt (plain (λ _. i32)) yes, (stay-none-slice (3 ∷ []) tt (plain (λ _. (Array u64 5))) yes, (stay-none-slice (4 ∷ []) tt (plain (λ _. u8)) yes, (stay-none-slice (5 ∷ []) tt (plain (λ _. i32)) yes, (stay-none-slice (6 ∷ []) tt (plain (λ _. i64)) yes, (stay-none-slice (7 ∷ []) tt (plain (λ _. u8)) yes, (stay-none-slice (8 ∷ []) tt (plain (λ _. u8)) yes, tt)))))))))
@@ -72,13 +70,6 @@ stayed = (stay-ref (0 ∷ []) tt (plain (λ _. R)), (gave-slice (1 ∷ []) tt (p
 -- the contract that the proof cites
 abbrev ByValue : {M : Type 1} (𝓤 : URA M) (H : Heap 𝓤) (A : Atoms 𝓤) (mem : Memory → SProp 𝓤) (run : Routine → Fun 𝓤) → Contract 𝓤
 ByValue 𝓤 H A mem run = tripleOf 𝓤 H A by-value.signature (by-value.spec 𝓤 H A mem run)
-
--- the machine values of a record and of a slice
-abbrev mach : OpenFile → Val
-mach h = LL.val T.the-type T′.the-laws h
-
-abbrev sl : {X : Type 0} → RefT (List X) → Val
-sl x = sliceVal (x .ptr) (length (x .now))
 
 -- what whoever holds an answer knows of its fields
 after-is : (r : BatchedThrough) (w : Val) → Is P.the-row r (w ∷ []) → Is R (r .held) (mach (r .held) ∷ [])

@@ -1,5 +1,5 @@
 -- `held::comparing::same_numbers` meets its contract: the first field that differs tells, and where none does they are the same. Assumes nothing.
-use mathlib.Core.Path.{sym, _∙_}
+use mathlib.Core.Path.{_≡_, sym, _∙_}
 use Rattle.words.proofs.Codes.{differ-at, same-next, same-one}
 use Rattle.held.proofs.comparing.same_numbers.Statement.{statement}
 use Rattle.held.proofs.comparing.same_numbers.Tie as tie
@@ -52,18 +52,30 @@ returns-12 c =
     let e3 = past-3 e4 in
     let e2 = past-2 e3 in
     let e1 = past-1 e2 in
+    let a = e1 .before .before .before .args in
+    let order : a .one .order .0 ≡ a .other .order .0 = e1 .if1 .left in
+    let reclen : a .one .reclen ≡ a .other .reclen = e2 .if2 .left in
+    let kind : a .one .kind ≡ a .other .kind = e3 .if3 .left in
+    let vind : a .one .vind ≡ a .other .vind = e4 .if4 .left in
+    let lind : a .one .lind ≡ a .other .lind = e5 .if5 .left in
+    let flags : a .one .flags ≡ a .other .flags = e6 .if6 .left in
+    let xnext : a .one .xnext .0 ≡ a .other .xnext .0 = e7 .if7 .left in
+    let nextrec : a .one .nextrec .0 ≡ a .other .nextrec .0 = e8 .if8 .left in
+    let nextword : a .one .nextword .0 ≡ a .other .nextword .0 = e9 .if9 .left in
+    let lex1 : a .one .lex1 ≡ a .other .lex1 = e10 .if10 .left in
+    let nex : a .one .nex ≡ a .other .nex = e11 .if11 .left in
     sym
-    (same-next _ _ (e1 .if1 .left)
-    ∙ same-next _ _ (e2 .if2 .left)
-    ∙ same-next _ _ (e3 .if3 .left)
-    ∙ same-next _ _ (e4 .if4 .left)
-    ∙ same-next _ _ (e5 .if5 .left)
-    ∙ same-next _ _ (e6 .if6 .left)
-    ∙ same-next _ _ (e7 .if7 .left)
-    ∙ same-next _ _ (e8 .if8 .left)
-    ∙ same-next _ _ (e9 .if9 .left)
-    ∙ same-next _ _ (e10 .if10 .left)
-    ∙ same-next _ _ (e11 .if11 .left)
+    (same-next _ _ order
+    ∙ same-next _ _ reclen
+    ∙ same-next _ _ kind
+    ∙ same-next _ _ vind
+    ∙ same-next _ _ lind
+    ∙ same-next _ _ flags
+    ∙ same-next _ _ xnext
+    ∙ same-next _ _ nextrec
+    ∙ same-next _ _ nextword
+    ∙ same-next _ _ lex1
+    ∙ same-next _ _ nex
     ∙ same-one _ _)
 
 pub same-numbers-spec : {M : Type 1} → statement M

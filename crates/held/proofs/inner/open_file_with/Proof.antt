@@ -1,10 +1,9 @@
 -- `held::inner::open_file_with` meets its contract. Assumes nothing.
-use mathlib.Core.Path.{_≡_, ap, _∙_}
+use mathlib.Core.Path.{ap, _∙_}
 use mathlib.Core.List.{List}
 use Prim.Native.Nat.{ℕ}
 use borrow.Author.Needs.{needs}
 use Rattle.geometry.specs.declared.growth.Growth.{Growth}
-use Rattle.held.specs.declared.opening.OpenFile.{OpenFile}
 use Rattle.held.specs.Record.{totalsOf}
 use Rattle.held.proofs.inner.open_file_with.Statement.{statement}
 use Rattle.held.proofs.inner.open_file_with.Tie as tie

@@ -1,5 +1,5 @@
 -- `held::opening::open_file_of` meets its contract: it validates, and makes the record of what that gives. Assumes nothing.
-use mathlib.Core.Path.{_≡_, sym, ap, _∙_}
+use mathlib.Core.Path.{sym, ap, _∙_}
 use borrow.Author.Needs.{needs}
 use Rattle.descriptor.proofs.Answered.{told, refusal-told}
 use Rattle.held.specs.declared.opening.OpenFile.{OpenFile}

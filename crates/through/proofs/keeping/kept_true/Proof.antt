@@ -13,7 +13,8 @@ returns-2 c =
     let same = c .before in
     let s = same .before .before .before .before in
     let a = s .args in
-    let totals : a .held .totals ≡ totalsOf (growthIn (a .numbers)) (a .numbers .nex) = s .pre .totals ∙ ap (totalsOf (growthIn (a .numbers))) (sym (same .if1 .left)) in
+    let as-many : a .numbers .nex ≡ a .held .numbers .nex = same .if1 .left in
+    let totals : a .held .totals ≡ totalsOf (growthIn (a .numbers)) (a .numbers .nex) = s .pre .totals ∙ ap (totalsOf (growthIn (a .numbers))) (sym as-many) in
     ap (λ (l : List ℕ). record { numbers = a .numbers; addresses = a .addresses; totals = l }) totals
 
 pub kept-true-spec : {M : Type 1} → statement M
