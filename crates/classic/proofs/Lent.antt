@@ -6,9 +6,9 @@ use denote.RattleType.{RattleType}
 use denote.Ref.{RefT}
 use denote.Slice.{sliceVal}
 use denote.Struct.Laws as LL
-use Rattle.held.specs.declared.opening.OpenFile.{OpenFile}
-use Rattle.held.proofs.opening.OpenFile as T
-use Rattle.held.proofs.opening.OpenFile.Laws as T′
+use Rattle.held.specs.declared.answers.OpenFile.{OpenFile}
+use Rattle.held.proofs.answers.OpenFile as T
+use Rattle.held.proofs.answers.OpenFile.Laws as T′
 
 -- the type of a record
 abbrev pub R : RattleType

@@ -19,8 +19,8 @@ use Rattle.descriptor.specs.Answers.{validationOf, Validates}
 use Rattle.descriptor.specs.Rules.{fileRefusal}
 use Rattle.descriptor.proofs.Refusals.{all-hold}
 use Rattle.descriptor.proofs.Answered.{answer-numbers, answer-refused}
-use Rattle.held.specs.declared.opening.OpenFile.{OpenFile}
-use Rattle.held.specs.declared.opening.OpenFileAnswer.{OpenFileAnswer}
+use Rattle.held.specs.declared.answers.OpenFile.{OpenFile}
+use Rattle.held.specs.declared.answers.OpenFileAnswer.{OpenFileAnswer}
 use Rattle.held.specs.Record.{totalsOf, openFileWith, openFileIn, openFileOf, TrueOf}
 use Rattle.held.specs.Rules.{fieldsOf, heldRules, heldRefusal}
 use Rattle.held.proofs.Tables.{records-equal}

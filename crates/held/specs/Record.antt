@@ -12,8 +12,8 @@ use Rattle.descriptor.specs.declared.validating.Validated.{Validated}
 use Rattle.descriptor.specs.declared.validating.Validated.the-variants.{Numbers, Refused}
 use Rattle.descriptor.specs.FirstRecord.{growthIn}
 use Rattle.descriptor.specs.Answers.{noNumbers, validationOf}
-use Rattle.held.specs.declared.opening.OpenFile.{OpenFile}
-use Rattle.held.specs.declared.opening.OpenFileAnswer.{OpenFileAnswer}
+use Rattle.held.specs.declared.answers.OpenFile.{OpenFile}
+use Rattle.held.specs.declared.answers.OpenFileAnswer.{OpenFileAnswer}
 
 -- the running totals: place k, counted from 1, holds the first k capacities together. 16 places, those past nex zero
 unfoldable pub totalsOf : Growth → ℕ → List ℕ

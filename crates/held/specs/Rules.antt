@@ -6,7 +6,7 @@ use Rattle.words.specs.Code.{sameNumbers}
 use Rattle.geometry.specs.Units.{recordNumbers}
 use Rattle.descriptor.specs.declared.numbers.DescriptorNumbers.{DescriptorNumbers}
 use Rattle.descriptor.specs.Refusal.{Rule, row, refusalIn}
-use Rattle.held.specs.declared.opening.OpenFile.{OpenFile}
+use Rattle.held.specs.declared.answers.OpenFile.{OpenFile}
 use Rattle.held.specs.Record.{openFileOf}
 
 -- the fields of a first record but the addresses, and its order

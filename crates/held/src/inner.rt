@@ -1,5 +1,5 @@
 // The record of a file whose numbers and addresses are at hand, as after validating it.
-use super::opening::OpenFile;
+use super::answers::OpenFile;
 use super::totals::totals_of;
 use descriptor::DescriptorNumbers;
 use geometry::Growth;

@@ -3,13 +3,14 @@
 // Every field of it follows from the file's first record, so a record is true of a file or it is not, and
 // `held_refusal` says which. The functions of `inner` are for the crates above, which have validated
 // before they call.
+mod answers;
 mod comparing;
 pub mod inner;
 mod opening;
 mod rules;
 mod totals;
 
-pub use opening::OpenFile;
-pub use opening::OpenFileAnswer;
+pub use answers::OpenFile;
+pub use answers::OpenFileAnswer;
 pub use opening::open_file_of;
 pub use rules::held_refusal;

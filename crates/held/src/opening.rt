@@ -1,6 +1,7 @@
 // The record of an open file, made from its first record.
+use super::answers::OpenFile;
+use super::answers::OpenFileAnswer;
 use super::inner::open_file_with;
-use descriptor::DescriptorNumbers;
 use descriptor::Validated;
 use descriptor::no_numbers;
 use descriptor::refusal_of;
@@ -8,23 +9,6 @@ use descriptor::validate;
 use geometry::RecordNumber;
 ghost use Rattle.outcome.specs.Outcome.{Answers};
 ghost use Rattle.held.specs.Record.{noOpenFile, openFileOf};
-
-// What a recorder keeps of an open file: its settings with the order, its counts and its next free
-// place; the first record of each index area; and how many entries the extensions up to each hold
-// together. C has these numbers in this order (include/classic.h).
-#[repr(C)]
-pub struct OpenFile {
-    pub numbers: DescriptorNumbers,
-    pub addresses: [RecordNumber; 16],
-    pub totals: [u64; 16],
-}
-
-// The answer of `open_file_of`: the refusal, 0 when the file is admitted, and its record.
-#[repr(C)]
-pub struct OpenFileAnswer {
-    pub refusal: u32,
-    pub file: OpenFile,
-}
 
 // A refusal, with a record of zeros.
 fn no_open_file(refusal: u32) -> OpenFileAnswer

@@ -1,8 +1,8 @@
 // Rule 27, that a record is the one that its file has.
+use super::answers::OpenFile;
 use super::comparing::same_numbers;
 use super::comparing::same_records;
 use super::comparing::same_totals;
-use super::opening::OpenFile;
 use super::opening::open_file_of;
 ghost use Rattle.outcome.specs.Outcome.{Answers};
 ghost use Rattle.held.specs.Rules.{heldRefusal};

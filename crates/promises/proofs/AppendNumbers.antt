@@ -14,7 +14,7 @@ use Rattle.writer.specs.Rules.{appendRefusal}
 use Rattle.writer.specs.Answers.{appendedFrom, appendIn, appendOf, fileAfter}
 use Rattle.outcome.proofs.Either.{either}
 use Rattle.promises.proofs.Scan.{by-file}
-use Rattle.promises.proofs.RefusalMeans.{append-behind}
+use Rattle.promises.proofs.ThroughMeans.{append-behind}
 use Rattle.promises.proofs.RefusedAnswers.{append-kept}
 
 module _ (file : List ℕ) (h : Handed) where

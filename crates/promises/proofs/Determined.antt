@@ -20,7 +20,7 @@ use Rattle.batch.specs.declared.inner.BatchedFrom.{BatchedFrom}
 use Rattle.batch.specs.Batch.{Batch}
 use Rattle.batch.specs.Answers.{AppendsInTurn, AppendsBatch}
 use Rattle.update.specs.Answers.{Update, UpdatesAt, Updates}
-use Rattle.held.specs.declared.opening.OpenFile.{OpenFile}
+use Rattle.held.specs.declared.answers.OpenFile.{OpenFile}
 use Rattle.through.specs.declared.appending.AppendedThrough.{AppendedThrough}
 use Rattle.through.specs.declared.batching.BatchedThrough.{BatchedThrough}
 use Rattle.through.specs.declared.updating.UpdatedThrough.{UpdatedThrough}

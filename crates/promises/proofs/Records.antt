@@ -24,8 +24,8 @@ use Rattle.update.specs.Rules.{contentRules}
 use Rattle.update.specs.Answers.{spaceOf, placeNamed}
 use Rattle.updated.proofs.Rewritten.{update-kept}
 use Rattle.updated.proofs.EntryAfter.{update-validates}
-use Rattle.held.specs.declared.opening.OpenFile.{OpenFile}
-use Rattle.held.specs.declared.opening.OpenFileAnswer.{OpenFileAnswer}
+use Rattle.held.specs.declared.answers.OpenFile.{OpenFile}
+use Rattle.held.specs.declared.answers.OpenFileAnswer.{OpenFileAnswer}
 use Rattle.held.specs.Record.{openFileOf, TrueOf}
 use Rattle.held.specs.Rules.{heldRules, heldRefusal}
 use Rattle.held.proofs.Held.{held-true, true-held, held-27, validated-record, true-shown}
@@ -36,7 +36,8 @@ use Rattle.promises.specs.Calls.{Call, append, batch, update, AllFit, An
 use Rattle.promises.specs.Tables.{entryRows, sectionRows, appendToTests, turnRows, batchToTests, updateToTests}
 use Rattle.promises.specs.Demand.{Start, Promised}
 use Rattle.promises.specs.Records.{withAnswer, callThrough, runThrough, answersThrough, TrueThroughout, PastFile}
-use Rattle.promises.proofs.RefusalMeans.{EachNumber, given-among, each-joined, append-to-means, batch-to-means, update-to-means}
+use Rattle.promises.proofs.RefusalMeans.{EachNumber, given-among, each-joined}
+use Rattle.promises.proofs.ThroughMeans.{append-to-means, batch-to-means, update-to-means}
 use Rattle.promises.proofs.RefusedAnswers.{append-kept, whole-26}
 use Rattle.promises.proofs.Batches.{batch-none}
 use Rattle.promises.proofs.OrderSound.{order-sound}

@@ -31,26 +31,19 @@ use Rattle.entry.specs.Answers.{enteredIn, openedAs, openOf, openCase}
 use Rattle.entry.proofs.Entering.{entered-refusal}
 use Rattle.handing.specs.declared.place.PartPlace.{PartPlace}
 use Rattle.handing.specs.Parts.{noPart, pieceFrom, indexPart, sectionPart, dataPart, partIn, indexWordsOf, sectionWordsOf, dataWordsOf}
-use Rattle.writer.specs.declared.appending.Appended.{Appended}
 use Rattle.writer.specs.declared.inner.AppendedFrom.{AppendedFrom}
 use Rattle.storing.specs.Handed.{Handed}
 use Rattle.writer.specs.Rules.{appendRules, appendRefusal}
 use Rattle.writer.specs.Answers.{acceptedFrom, refusedFrom, appendedFrom, appendIn, appendOf, fileAfter}
 use Rattle.writer.specs.Creation.{creationRefusal}
-use Rattle.written.proofs.ReadBack.{shows}
 use Rattle.batch.specs.declared.batching.Batched.{Batched}
 use Rattle.batch.specs.Batch.{Batch, entriesIn}
 use Rattle.batch.specs.Rules.{batchRules, batchRefusal}
 use Rattle.batch.specs.Answers.{answerInTurn, batchOf}
 use Rattle.update.specs.Rules.{contentRules, contentRefusal}
 use Rattle.update.specs.Answers.{Update, spaceOf, updateAt, placeNamed, updateOf}
-use Rattle.held.specs.declared.opening.OpenFile.{OpenFile}
-use Rattle.held.specs.Rules.{heldRules, heldRefusal}
-use Rattle.held.proofs.Held.{held-true, true-shown}
-use Rattle.through.specs.Answers.{Outcome, appendThrough, batchThrough, updateThrough}
-use Rattle.through.proofs.Kept.{append-validates}
 use Rattle.outcome.proofs.Either.{either}
-use Rattle.promises.specs.Tables.{extensionRows, entryRows, sectionRows, Exactly, validateTests, createTests, extensionTests, openTests, sectionTests, updateTests, appendTests, inTurnTests, batchTests, appendToTests, turnRows, batchToTests, updateToTests}
+use Rattle.promises.specs.Tables.{extensionRows, entryRows, sectionRows, Exactly, validateTests, createTests, extensionTests, openTests, sectionTests, updateTests, appendTests, inTurnTests, batchTests}
 
 -- ---- any table
 
@@ -98,7 +91,7 @@ each-joined P [] more m n = n
 each-joined P (r ∷ rs) more m n = (m .0, each-joined P rs more (m .1) n)
 
 -- a number that is given exactly by a table is its refusal
-exact-number : (n : ℕ) (rules : List Rule) → Numbered rules → Exactly n rules → n ≡ refusalIn rules
+pub exact-number : (n : ℕ) (rules : List Rule) → Numbered rules → Exactly n rules → n ≡ refusalIn rules
 exact-number n rules m e =
     let k = refusalIn rules in
     either (eqb k 0)
@@ -110,7 +103,7 @@ chosen : {A : Type 0} (number : A → ℕ) (n : ℕ) (x y : A) → number x ≡ 
 chosen number n x y f g = either (eqb n 0) (λ q. rw q (f ∙ sym (eqb-true n 0 q))) (λ q. rw q g)
 
 -- where n is the first table's refusal, and x, if n is 0, has the number of the second's, it has that of the two joined
-chosen-joined : {A : Type 0} (number : A → ℕ) (n : ℕ) (x y : A) (rs ss : List Rule) → Numbered rs → n ≡ refusalIn rs → (n ≡ 0 → number x ≡ refusalIn ss) → number y ≡ n
+pub chosen-joined : {A : Type 0} (number : A → ℕ) (n : ℕ) (x y : A) (rs ss : List Rule) → Numbered rs → n ≡ refusalIn rs → (n ≡ 0 → number x ≡ refusalIn ss) → number y ≡ n
     → number (cond (eqb n 0) x y) ≡ refusalIn (rs ++ ss)
 chosen-joined number n x y rs ss m e f g =
     joined (number (cond (eqb n 0) x y)) rs ss m (λ z. let none : n ≡ 0 = e ∙ z in rw none (f none)) (λ q. rw (ap (λ (k : ℕ). eqb k 0) e ∙ q) (g ∙ e))
@@ -235,7 +228,7 @@ turns-numbered [] file = tt
 turns-numbered (h ∷ hs) file = numbered-joined (appendTests file h) (inTurnTests (fileAfter file h) hs) (omega arith) (turns-numbered hs (fileAfter file h))
 
 -- an append's refusal is that of its tests
-append-number : (file : List ℕ) (h : Handed) → appendOf file h .refusal ≡ refusalIn (appendTests file h)
+pub append-number : (file : List ℕ) (h : Handed) → appendOf file h .refusal ≡ refusalIn (appendTests file h)
 append-number file h = exact-number (appendOf file h .refusal) (appendTests file h) (omega arith) (append-means file h)
 
 -- appends in turn answer by their tests in turn
@@ -272,66 +265,3 @@ module _ (file : List ℕ) (b : Batch) where
         (λ q. rw q (λ e. refusal-given 26 (batchRules b) e (omega arith))),
     λ g. rw (refusal-is 26 (batchRules b) g),
   )
-
--- ---- calls through a record
-
--- behind the tests of an admitted file the other rows count
-behind-file : (file : List ℕ) (rest : List Rule) → fileRefusal file ≡ 0 → refusalIn (validateTests file ++ rest) ≡ refusalIn rest
-unfolding fileRefusal
-behind-file file rest z = refusal-append (validateTests file) rest (omega arith) ∙ ap (λ (n : ℕ). cond (eqb n 0) (refusalIn rest) n) z
-
--- an append to an admitted file is refused by 21 to 24
-pub append-behind : (file : List ℕ) (h : Handed) → fileRefusal file ≡ 0 → appendOf file h .refusal ≡ refusalIn (appendRules (length file) (numbersOf file) h)
-append-behind file h z = append-number file h ∙ behind-file file (appendRules (length file) (numbersOf file) h) z
-
--- and so are appends in turn
-turns-behind : (hs : List Handed) (n : ℕ) (file : List ℕ) → fileRefusal file ≡ 0 → answerInTurn n file hs .refusal ≡ refusalIn (turnRows file hs)
-turns-behind [] n file z = refl
-turns-behind (h ∷ hs) n file z =
-    let next = fileAfter file h in
-    let again : fileRefusal next ≡ 0 = shows next _ _ (append-validates file _ _ h (answer-numbers file z)) .admitted in
-    chosen-joined (λ (x : Batched). x .refusal) (appendOf file h .refusal) _ _ (appendRules (length file) (numbersOf file) h) (turnRows next hs) (omega arith)
-    (append-behind file h z) (λ q. turns-behind hs (n + 1) next again) refl
-
--- their rows have none numbered 0
-rows-numbered : (hs : List Handed) (file : List ℕ) → Numbered (turnRows file hs)
-rows-numbered [] file = tt
-rows-numbered (h ∷ hs) file = numbered-joined (appendRules (length file) (numbersOf file) h) (turnRows (fileAfter file h) hs) (omega arith) (rows-numbered hs (fileAfter file h))
-
-module _ (file : List ℕ) (held : OpenFile) where
-  -- a call through a record gives 27, or where the record is true, and so the file admitted, what other rows give
-  through-joined : {A : Type 0} (number : A → ℕ) (done undone : Outcome A) (rest : List Rule) → (fileRefusal file ≡ 0 → number (done .answer) ≡ refusalIn rest)
-      → number (undone .answer) ≡ heldRefusal file held → number (cond (eqb (heldRefusal file held) 0) done undone .answer) ≡ refusalIn (heldRules file held ++ rest)
-  unfolding heldRefusal
-  through-joined {A} number done undone rest f g =
-      chosen-joined (λ (x : Outcome A). number (x .answer)) (heldRefusal file held) done undone (heldRules file held) rest (omega arith) refl
-      (λ z. f (shows file _ _ (true-shown file held (held-true file held z) .validates) .admitted)) g
-
-  -- an append
-  pub append-to-means : (h : Handed) → Exactly (appendThrough file held h .answer .refusal) (appendToTests file held h)
-  unfolding appendThrough
-  append-to-means h =
-      exactly (appendThrough file held h .answer .refusal) (appendToTests file held h) (omega arith)
-      (through-joined (λ (x : Appended). x .refusal) _ _ (appendRules (length file) (numbersOf file) h) (append-behind file h) refl)
-
-  -- a batch
-  pub batch-to-means : (b : Batch) → Exactly (batchThrough file held b .answer .refusal) (batchToTests file held b)
-  unfolding batchThrough batchOf batchRefusal
-  batch-to-means b =
-      let hs = entriesIn b in
-      let rest = heldRules file held ++ turnRows file hs in
-      exactly (batchThrough file held b .answer .refusal) (batchToTests file held b)
-      (numbered-joined (batchRules b) rest (omega arith) (numbered-joined (heldRules file held) (turnRows file hs) (omega arith) (rows-numbered hs file)))
-      (chosen-joined (λ (x : Outcome Batched). x .answer .refusal) (batchRefusal b) _ _ (batchRules b) rest (omega arith) refl
-      (λ z. through-joined (λ (x : Batched). x .refusal) _ _ (turnRows file hs) (λ a. rw z (turns-behind hs 0 file a)) refl)
-      refl)
-
-  -- an update
-  pub update-to-means : (u : Update) → Exactly (updateThrough file held u .answer) (updateToTests file held u)
-  unfolding updateThrough
-  update-to-means u =
-      let rest = entryRows file (u .number) ++ sectionRows file (u .number) (u .identifier) ++ contentRules (length (u .content)) (spaceOf (placeNamed file u)) in
-      let numbered : Numbered (updateTests file u) = numbered-joined (validateTests file) rest (omega arith) (omega arith) in
-      let number : updateOf file u ≡ refusalIn (updateTests file u) = exact-number (updateOf file u) (updateTests file u) numbered (update-means file u) in
-      exactly (updateThrough file held u .answer) (updateToTests file held u) (omega arith)
-      (through-joined (λ (n : ℕ). n) _ _ rest (λ z. number ∙ behind-file file rest z) refl)

@@ -2,7 +2,7 @@
 use Prim.Native.Nat.{ℕ, _≤_}
 use mathlib.Core.Path.{_≡_}
 use mathlib.Core.List.{List, [], _∷_}
-use Rattle.held.specs.declared.opening.OpenFile.{OpenFile}
+use Rattle.held.specs.declared.answers.OpenFile.{OpenFile}
 use Rattle.held.specs.Record.{TrueOf}
 use Rattle.through.specs.Answers.{Outcome, appendThrough, batchThrough, updateThrough}
 use Rattle.promises.specs.Calls.{Call, append, batch, update, Answer, appended, batched, updated}

@@ -20,7 +20,7 @@ use Rattle.batch.specs.declared.batching.Batched.{Batched}
 use Rattle.batch.specs.Batch.{Batch, laidIn, batchIn, entriesIn}
 use Rattle.batch.specs.Answers.{batchOf, fileAfterBatch}
 use Rattle.update.specs.Answers.{Update, updateIn, updateOf, fileAfterUpdate}
-use Rattle.held.specs.declared.opening.OpenFile.{OpenFile}
+use Rattle.held.specs.declared.answers.OpenFile.{OpenFile}
 use Rattle.held.specs.Record.{totalsOf, openFileOf}
 use Rattle.held.specs.Rules.{fieldsOf, heldRefusal}
 use Rattle.through.specs.Answers.{appendThrough, batchThrough, updateThrough}
@@ -37,10 +37,6 @@ use Rattle.promises.specs.Examples.Row.{Q}
 -- a file with another byte at an offset
 abbrev pub withByte : List ℕ → ℕ → ℕ → List ℕ
 withByte file at byte = splice file at (byte ∷ [])
-
--- a file in which the last byte of word w, counted from the file's start, is 1
-abbrev pub leftIn : ℕ → List ℕ → List ℕ
-leftIn w file = withByte file (4 * w - 1) 1
 
 -- ---- Q-1
 
@@ -308,10 +304,10 @@ recordExamples =
     Q 5 (map (λ i. updateThrough A (altered i) (rewriting 4) .answer) eachField) (replicate 44 27) ∷
     -- and changes nothing: the last total
     Q 5 (appendThrough (after2 6) (altered 43) append3) (record { answer = record { refusal = 27; number = entry 0 }; held = altered 43; file = after2 6 }) ∷
-    -- the record of another state of the file is false too, and so is any record of a file that is refused
+    -- the record of another state of the file is false too, and so is any record of a file that is refused: of 10 bytes, and of A with its last record lost
     Q 5 (appendThrough A record2 append3 .answer .refusal) 27 ∷
     Q 5 (appendThrough (following 0 10) (recordOf (replicate 44 0)) append3 .answer .refusal) 27 ∷
-    Q 5 (appendThrough (leftIn 20 A) recordA append3 .answer .refusal) 27 ∷
+    Q 5 (appendThrough (take 400 A) recordA append3 .answer .refusal) 27 ∷
     -- 27 comes before 21, 12 and 28, which a true record gives; 26 comes before 27
     Q 5 (appendThrough A (altered 0) (handedIn (pos 1) [] [] [] [] []) .answer .refusal) 27 ∷
     Q 5 (appendThrough A recordA (handedIn (pos 1) [] [] [] [] []) .answer .refusal) 21 ∷
@@ -370,6 +366,10 @@ writesExamples =
     []
 
 -- ---- Q-7
+
+-- a file in which the last byte of word w, counted from the file's start, is 1
+abbrev pub leftIn : ℕ → List ℕ → List ℕ
+leftIn w file = withByte file (4 * w - 1) 1
 
 -- a new file of one record
 abbrev pub oneRecord : ℕ → List ℕ

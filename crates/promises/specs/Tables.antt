@@ -22,7 +22,7 @@ use Rattle.batch.specs.Batch.{Batch, entriesIn}
 use Rattle.batch.specs.Rules.{batchRules}
 use Rattle.update.specs.Rules.{contentRules}
 use Rattle.update.specs.Answers.{Update, spaceOf, placeNamed}
-use Rattle.held.specs.declared.opening.OpenFile.{OpenFile}
+use Rattle.held.specs.declared.answers.OpenFile.{OpenFile}
 use Rattle.held.specs.Rules.{heldRules}
 
 -- ---- the tables

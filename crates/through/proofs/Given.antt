@@ -24,7 +24,7 @@ use Rattle.update.specs.Answers.{Update, updateAt, fileAt, placeNamed, UpdatesA
 use Rattle.update.specs.Bounds.{Writable}
 use Rattle.update.proofs.Places.{named-writable}
 use Rattle.updated.proofs.EntryAfter.{update-validates}
-use Rattle.held.specs.declared.opening.OpenFile.{OpenFile}
+use Rattle.held.specs.declared.answers.OpenFile.{OpenFile}
 use Rattle.held.specs.Record.{openFileWith, openFileIn, openFileOf, TrueOf}
 use Rattle.held.specs.Rules.{heldRefusal}
 use Rattle.held.proofs.Held.{held-true, true-shown}

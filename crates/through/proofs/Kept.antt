@@ -19,7 +19,7 @@ use Rattle.writer.specs.Answers.{appendedFrom, appendIn, appendOf, fileAfter}
 use Rattle.written.proofs.ReadBack.{shows}
 use Rattle.batch.specs.Answers.{fileInTurn, batchedFrom}
 use Rattle.batch.proofs.Appending.{file-from, stays-from, validates-from}
-use Rattle.held.specs.declared.opening.OpenFile.{OpenFile}
+use Rattle.held.specs.declared.answers.OpenFile.{OpenFile}
 use Rattle.held.specs.Record.{TrueOf}
 use Rattle.held.proofs.Held.{true-shown}
 use Rattle.through.specs.Bounds.{Grown}

@@ -6,8 +6,8 @@ use borrow.Author.Tests.{ne-eqb}
 use Rattle.geometry.specs.declared.units.RecordNumber.{RecordNumber}
 use Rattle.descriptor.specs.declared.numbers.DescriptorNumbers.{DescriptorNumbers}
 use Rattle.descriptor.specs.Answers.{Validates}
-use Rattle.held.specs.declared.opening.OpenFile.{OpenFile}
-use Rattle.held.specs.declared.opening.OpenFileAnswer.{OpenFileAnswer}
+use Rattle.held.specs.declared.answers.OpenFile.{OpenFile}
+use Rattle.held.specs.declared.answers.OpenFileAnswer.{OpenFileAnswer}
 use Rattle.held.specs.Record.{openFileWith, openFileOf}
 use Rattle.held.specs.Rules.{heldRefusal}
 use Rattle.held.proofs.Held.{validated-record}
@@ -26,14 +26,17 @@ record-then file d addresses v = sym (ap (λ (x : OpenFileAnswer). x .file) (val
 module _ (file : List ℕ) (held : OpenFile) where
   -- refused by 27
   module _ {n : ℕ} (e : n ≡ heldRefusal file held) (some : n ≡ 0 → ⊥) where
+    -- an append changes nothing
     pub append-refused : (h : Handed) → appendThrough file held h ≡ stays file held (noAppend n)
     unfolding appendThrough
     append-refused h = rw (← e, ne-eqb n 0 some)
 
+    -- nor does a batch that passes 26
     pub batch-refused : (b : Batch) → batchRefusal b ≡ 0 → batchThrough file held b ≡ stays file held (noBatch n)
     unfolding batchThrough
     batch-refused b z = rw (z, ← e, ne-eqb n 0 some)
 
+    -- nor does an update
     pub update-refused : (u : Update) → updateThrough file held u ≡ stays file held n
     unfolding updateThrough
     update-refused u = rw (← e, ne-eqb n 0 some)
@@ -45,14 +48,17 @@ module _ (file : List ℕ) (held : OpenFile) where
 
   -- refused by neither
   module _ (z : heldRefusal file held ≡ 0) where
+    -- an append does what it does without the record
     pub append-done : (h : Handed) → appendThrough file held h ≡ leaving (appendOf file h) (fileAfter file h)
     unfolding appendThrough
     append-done h = rw z
 
+    -- so does a batch
     pub batch-done : (b : Batch) → batchRefusal b ≡ 0 → batchThrough file held b ≡ leaving (batchOf file b) (fileAfterBatch file b)
     unfolding batchThrough
     batch-done b q = rw (q, z)
 
+    -- and an update
     pub update-done : (u : Update) → updateThrough file held u ≡ leaving (updateOf file u) (fileAfterUpdate file u)
     unfolding updateThrough
     update-done u = rw z

@@ -3,7 +3,7 @@ use mathlib.Core.Path.{_≡_}
 use Rattle.descriptor.specs.declared.numbers.DescriptorNumbers.{DescriptorNumbers}
 use Rattle.descriptor.specs.FirstRecord.{growthIn}
 use Rattle.descriptor.specs.Bounds.{Settled}
-use Rattle.held.specs.declared.opening.OpenFile.{OpenFile}
+use Rattle.held.specs.declared.answers.OpenFile.{OpenFile}
 use Rattle.held.specs.Record.{totalsOf}
 
 -- they are within their limits, and the totals of the record before the call are those of their growth, for the extensions that were in use

@@ -46,10 +46,10 @@ use denote.Signature.{plain}
 use denote.Array.{Array}
 use Rattle.batch.specs.Batch.{laidIn, batchIn}
 use Rattle.through.specs.Answers.{AppendsBatchThrough}
-use Rattle.held.specs.declared.opening.OpenFile.{OpenFile}
+use Rattle.held.specs.declared.answers.OpenFile.{OpenFile}
 use Rattle.through.specs.declared.batching.BatchedThrough.{BatchedThrough}
-use Rattle.held.proofs.opening.OpenFile as T
-use Rattle.held.proofs.opening.OpenFile.Laws as T′
+use Rattle.held.proofs.answers.OpenFile as T
+use Rattle.held.proofs.answers.OpenFile.Laws as T′
 use Rattle.through.proofs.batching.BatchedThrough as P
 use Rattle.through.proofs.batching.BatchedThrough.Laws as P′
 use Rattle.batch.proofs.batching.Batched as S-Batched

@@ -46,10 +46,10 @@ use denote.Exit.{yes}
 use denote.Signature.{plain}
 use Rattle.storing.specs.Handed.{handedIn}
 use Rattle.through.specs.Answers.{AppendsThrough}
-use Rattle.held.specs.declared.opening.OpenFile.{OpenFile}
+use Rattle.held.specs.declared.answers.OpenFile.{OpenFile}
 use Rattle.through.specs.declared.appending.AppendedThrough.{AppendedThrough}
-use Rattle.held.proofs.opening.OpenFile as T
-use Rattle.held.proofs.opening.OpenFile.Laws as T′
+use Rattle.held.proofs.answers.OpenFile as T
+use Rattle.held.proofs.answers.OpenFile.Laws as T′
 use Rattle.through.proofs.appending.AppendedThrough as P
 use Rattle.through.proofs.appending.AppendedThrough.Laws as P′
 use Rattle.writer.proofs.appending.Appended as S-Appended

@@ -47,11 +47,11 @@ use denote.Exit.{yes}
 use denote.Signature.{plain}
 use Rattle.update.specs.Answers.{updateIn}
 use Rattle.through.specs.Answers.{UpdatesThrough}
-use Rattle.held.specs.declared.opening.OpenFile.{OpenFile}
+use Rattle.held.specs.declared.answers.OpenFile.{OpenFile}
 use Rattle.through.specs.declared.updating.UpdatedThrough.{UpdatedThrough}
 use Rattle.geometry.specs.declared.units.EntryNumber.{EntryNumber}
-use Rattle.held.proofs.opening.OpenFile as T
-use Rattle.held.proofs.opening.OpenFile.Laws as T′
+use Rattle.held.proofs.answers.OpenFile as T
+use Rattle.held.proofs.answers.OpenFile.Laws as T′
 use Rattle.through.proofs.updating.UpdatedThrough as P
 use Rattle.through.proofs.updating.UpdatedThrough.Laws as P′
 use Rattle.geometry.proofs.units.EntryNumber as S-EntryNumber

@@ -2,7 +2,7 @@
 use mathlib.Core.Path.{sym, ap, _∙_}
 use borrow.Author.Needs.{needs}
 use Rattle.descriptor.proofs.Answered.{told, refusal-told}
-use Rattle.held.specs.declared.opening.OpenFile.{OpenFile}
+use Rattle.held.specs.declared.answers.OpenFile.{OpenFile}
 use Rattle.held.specs.Record.{noOpenFile, openFileIn}
 use Rattle.held.proofs.Held.{record-by}
 use Rattle.held.proofs.opening.open_file_of.Statement.{statement}

@@ -10,7 +10,7 @@ use Rattle.geometry.specs.Units.{recordNumbers}
 use Rattle.descriptor.specs.Refusal.{Rule}
 use Rattle.descriptor.proofs.Tests.{holds, broken}
 use Rattle.descriptor.proofs.Refusals.{Past, past-none, next, stop}
-use Rattle.held.specs.declared.opening.OpenFileAnswer.{OpenFileAnswer}
+use Rattle.held.specs.declared.answers.OpenFileAnswer.{OpenFileAnswer}
 use Rattle.held.specs.Record.{openFileOf}
 use Rattle.held.specs.Rules.{fieldsOf, heldRules, heldRefusal}
 use Rattle.held.proofs.rules.held_refusal.Statement.{statement}
