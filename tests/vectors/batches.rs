@@ -25,7 +25,7 @@ pub fn batches() {
 }
 
 /// Entries laid end to end.
-fn laid(entries: &[Addition]) -> Batch {
+pub fn laid(entries: &[Addition]) -> Batch {
     let mut b = Batch::default();
     for a in entries {
         let counts = [a.index.len(), a.ids.len(), a.lengths.len(), a.sections.len(), a.data.len()];
@@ -41,7 +41,7 @@ fn laid(entries: &[Addition]) -> Batch {
 }
 
 /// So many versions and so many rows of counts, all zero.
-fn zeros(versions: usize, rows: usize) -> Batch {
+pub fn zeros(versions: usize, rows: usize) -> Batch {
     Batch { versions: vec![0; versions], counts: vec![[0; 5]; rows], ..Batch::default() }
 }
 

@@ -1,6 +1,6 @@
 //! File A of document 01 in both orders, and files with words written over.
 
-use crate::reference::{append, create, Addition, Order, Settings};
+use crate::reference::{append, create, open_file_of, Addition, OpenFile, Order, Settings, FIELDS};
 
 /// The words of file A before its indexes, and before its entries.
 pub const INDEX: [usize; 3] = [20, 24, 80];
@@ -73,6 +73,11 @@ pub fn a() -> Vec<u8> {
 /// File A in the big order.
 pub fn big_a() -> Vec<u8> {
     a_after(Order::Big, 3)
+}
+
+/// The record of a file, zeros where it is refused.
+pub fn record_of(file: &[u8]) -> OpenFile {
+    open_file_of(file).unwrap_or([0; FIELDS.len()])
 }
 
 /// The order in which numbers are written over a file: big where the second byte of its code is 42, also in a code that

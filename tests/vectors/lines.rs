@@ -1,15 +1,16 @@
 //! The line of a case: the call, its name, and the answer of the independent implementation.
 
-use crate::reference::{self, Addition, Batch, Part, Refusal, Settings, Update};
+use crate::files::record_of;
+use crate::reference::{self, Addition, Batch, OpenFile, Part, Refusal, Settings, Update, FIELDS};
 
 /// A refusal in words.
 fn refused(refusal: Refusal) -> String {
     format!("refused {}", refusal.number)
 }
 
-/// Whether bytes are unchanged, in words.
-fn unchanged(before: &[u8], file: &[u8]) -> &'static str {
-    if before == file {
+/// Whether bytes or a record are unchanged, in words.
+fn unchanged<T: PartialEq + ?Sized>(before: &T, after: &T) -> &'static str {
+    if before == after {
         "unchanged"
     } else {
         "changed"
@@ -138,35 +139,88 @@ pub fn create(name: &str, bytes: usize, chosen: Settings) {
     println!("create {name}: {told}");
 }
 
+/// The record of an open file, its addresses and totals in 16 places each; zeros where it is refused.
+pub fn open_file(name: &str, file: &[u8]) {
+    let refusal = reference::open_file_of(file).err().map_or(String::new(), |refusal| format!(" {}", refused(refusal)));
+    let record = record_of(file);
+    let numbers: String =
+        FIELDS.iter().zip(record).take(12).map(|(field, value)| format!(" {field} {value}")).collect();
+    let places = |from: usize| record[from..from + 16].iter().map(|value| format!(" {value}")).collect::<String>();
+    println!("open file {name}:{refusal}{numbers} aex{} totals{}", places(12), places(28));
+}
+
+/// Whether a record changed in a call through it, and whether it is then the one that the file has, in words.
+fn left(before: &OpenFile, held: &OpenFile, file: &[u8]) -> String {
+    let own = reference::open_file_of(file).is_ok_and(|own| own == *held);
+    format!(" record {} and {own}", unchanged(before, held))
+}
+
+/// The answer of an append, and of a refused one whether bytes changed.
+fn appended(answer: Result<u64, Refusal>, before: &[u8], file: &[u8]) -> String {
+    match answer {
+        Ok(entry) => format!("entry {entry}"),
+        Err(refusal) => format!("{} {}", refused(refusal), unchanged(before, file)),
+    }
+}
+
 /// Appends to the first so many bytes of a file, which stays as the append leaves it.
 pub fn append(name: &str, file: &mut [u8], bytes: usize, addition: &Addition) {
     let before = file.to_vec();
-    let told = match reference::append(&mut file[..bytes], addition) {
-        Ok(entry) => format!("entry {entry}"),
-        Err(refusal) => format!("{} {}", refused(refusal), unchanged(&before, file)),
+    let answer = reference::append(&mut file[..bytes], addition);
+    println!("append {name}: {}", appended(answer, &before, file));
+}
+
+/// Appends through a record, which stays as the append leaves it.
+pub fn append_through(name: &str, held: &mut OpenFile, file: &mut [u8], bytes: usize, addition: &Addition) {
+    let (before, record) = (file.to_vec(), *held);
+    let answer = reference::append_to(held, &mut file[..bytes], addition);
+    println!("append through {name}: {}{}", appended(answer, &before, file), left(&record, held, &file[..bytes]));
+}
+
+/// The answer of a batch, and where no entry was accepted whether bytes changed.
+fn batched(answer: Result<u64, (u64, Refusal)>, before: &[u8], file: &[u8]) -> String {
+    let (accepted, refusal) = match answer {
+        Ok(accepted) => (accepted, String::new()),
+        Err((accepted, refusal)) => (accepted, format!(" {}", refused(refusal))),
     };
-    println!("append {name}: {told}");
+    let bytes = if accepted == 0 { format!(" {}", unchanged(before, file)) } else { String::new() };
+    format!("accepted {accepted}{refusal}{bytes}")
 }
 
 /// Appends a batch to the first so many bytes of a file, which stays as the batch leaves it.
 pub fn batch(name: &str, file: &mut [u8], bytes: usize, batch: &Batch) {
     let before = file.to_vec();
-    let (accepted, refusal) = match reference::append_batch(&mut file[..bytes], batch) {
-        Ok(accepted) => (accepted, String::new()),
-        Err((accepted, refusal)) => (accepted, format!(" {}", refused(refusal))),
-    };
-    let bytes = if accepted == 0 { format!(" {}", unchanged(&before, file)) } else { String::new() };
-    println!("batch {name}: accepted {accepted}{refusal}{bytes}");
+    let answer = reference::append_batch(&mut file[..bytes], batch);
+    println!("batch {name}: {}", batched(answer, &before, file));
+}
+
+/// Appends a batch through a record, which stays as the batch leaves it.
+pub fn batch_through(name: &str, held: &mut OpenFile, file: &mut [u8], bytes: usize, batch: &Batch) {
+    let (before, record) = (file.to_vec(), *held);
+    let answer = reference::append_batch_to(held, &mut file[..bytes], batch);
+    println!("batch through {name}: {}{}", batched(answer, &before, file), left(&record, held, &file[..bytes]));
+}
+
+/// The answer of an update, and of a refused one whether bytes changed.
+fn updated(answer: Result<(), Refusal>, before: &[u8], file: &[u8]) -> String {
+    match answer {
+        Ok(()) => "accepted".to_string(),
+        Err(refusal) => format!("{} {}", refused(refusal), unchanged(before, file)),
+    }
 }
 
 /// Updates a section in the first so many bytes of a file, which stays as the update leaves it.
 pub fn update(name: &str, file: &mut [u8], bytes: usize, update: &Update) {
     let before = file.to_vec();
-    let told = match reference::update(&mut file[..bytes], update) {
-        Ok(()) => "accepted".to_string(),
-        Err(refusal) => format!("{} {}", refused(refusal), unchanged(&before, file)),
-    };
-    println!("update {name}: {told}");
+    let answer = reference::update(&mut file[..bytes], update);
+    println!("update {name}: {}", updated(answer, &before, file));
+}
+
+/// Updates a section through a record, which stays as the update leaves it.
+pub fn update_through(name: &str, held: &mut OpenFile, file: &mut [u8], bytes: usize, update: &Update) {
+    let (before, record) = (file.to_vec(), *held);
+    let answer = reference::update_to(held, &mut file[..bytes], update);
+    println!("update through {name}: {}{}", updated(answer, &before, file), left(&record, held, &file[..bytes]));
 }
 
 /// Every call on the first so many bytes of a file, 0 for one that is accepted.

@@ -10,6 +10,7 @@ mod orders;
 #[path = "../compare/reference.rs"]
 #[allow(dead_code)]
 mod reference;
+mod through;
 mod updates;
 mod writing;
 
@@ -38,4 +39,5 @@ fn main() {
     leftovers::leftovers();
     batches::batches();
     updates::updates();
+    through::through();
 }

@@ -23,7 +23,7 @@ pub fn updates() {
 }
 
 /// An update of a section of an entry by new content.
-fn by(entry: u64, identifier: i32, content: Vec<u8>) -> Update {
+pub fn by(entry: u64, identifier: i32, content: Vec<u8>) -> Update {
     Update { entry, identifier, content, ..Update::default() }
 }
 

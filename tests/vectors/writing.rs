@@ -24,19 +24,21 @@ pub fn limits() {
     Order::BOTH.into_iter().for_each(entries);
 }
 
-/// P9: 65,536 entries in 16 extensions, each with an area of 268 records.
+/// P9 in an order: 65,536 entries in 16 extensions, each with an area of 268 records.
+pub fn p9(order: Order) -> Vec<u8> {
+    let empty = with4(created(4289 * 184, 0, in_order(order, settings(46, 3, 4096, 10))), 13, 16);
+    let file = with8(with8(empty, 7, 65537), 9, 4290);
+    (0..16).fold(file, |file, k| with8(file, 15 + 2 * k, 2 + 268 * k as i64))
+}
+
+/// P9, one entry more, and a file that says it has that entry.
 fn entries(order: Order) {
-    let p9 = named(order, "P9");
-    let mut file = with4(created(4289 * 184, 0, in_order(order, settings(46, 3, 4096, 10))), 13, 16);
+    let (name, mut file) = (named(order, "P9"), p9(order));
     let whole = file.len();
-    file = with8(with8(file, 7, 65537), 9, 4290);
-    for k in 0..16 {
-        file = with8(file, 15 + 2 * k, 2 + 268 * k as i64);
-    }
-    describe(&p9, &file);
-    extension(&format!("{p9} 16"), &file, 16);
-    append(&format!("{p9} entry 65537"), &mut file, whole, &bare(&[]));
-    validate(&format!("{p9} xnext 65538"), &with8(file, 7, 65538));
+    describe(&name, &file);
+    extension(&format!("{name} 16"), &file, 16);
+    append(&format!("{name} entry 65537"), &mut file, whole, &bare(&[]));
+    validate(&format!("{name} xnext 65538"), &with8(file, 7, 65538));
 }
 
 /// Appends index bytes and nothing else to file A in an order after so many appends.

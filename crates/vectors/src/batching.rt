@@ -1,5 +1,8 @@
 // The call that appends a batch of entries.
 use super::files::save;
+use super::holding::end_call;
+use super::holding::left;
+use super::holding::read_record;
 use super::lists::COUNTS;
 use super::lists::VERSIONS;
 use super::lists::at_most;
@@ -8,12 +11,12 @@ use super::lists::labelled;
 use super::lists::labelled_integers;
 use super::lists::read_lists;
 use super::printing::BATCH;
-use super::printing::end;
 use super::printing::print;
 use super::reading::bits_at;
 use super::writing::compared;
 use classic::Batched;
 use classic::append_batch;
+use classic::append_batch_through;
 ghost use Prim.Native.Nat.{_<_, _≤_};
 ghost use mathlib.Core.Path.{_≡_};
 ghost use lib.ListN.{length};
@@ -42,8 +45,10 @@ fn rows(values: &[i64], counts: &mut [[u64; 5]])
     }
 }
 
-// Appends a batch with identifiers, lengths, and the bytes of the index, the sections and the data one after another.
+// Appends a batch, through the record held or without it, with identifiers, lengths, and the bytes of the index, the
+// sections and the data one after another.
 fn batch_parts(
+    record: &mut [u8],
     numbers: &[i64],
     bytes: &[u8],
     versions: &[i32],
@@ -58,20 +63,32 @@ fn batch_parts(
     let i = parts.index;
     let s = parts.sections;
     let d = parts.values;
-    append_batch(
+    let index = &bytes[0..i];
+    let sections = &bytes[i..s];
+    let array = &bytes[s..d];
+    if record.len() == 0 {
+        return append_batch(file, versions, counts, index, ids, lengths, sections, array);
+    }
+    let held = read_record(record);
+    let made = append_batch_through(
+        held,
         file,
         versions,
         counts,
-        &bytes[0..i],
+        index,
         ids,
         lengths,
-        &bytes[i..s],
-        &bytes[s..d],
-    )
+        sections,
+        array,
+    );
+    let after = made.held;
+    left(held, after, record);
+    made.answer
 }
 
 // Appends a batch with versions and rows of counts.
 fn batch_rows(
+    record: &mut [u8],
     numbers: &[i64],
     lists: &[u8],
     at: usize,
@@ -86,6 +103,7 @@ fn batch_rows(
     let named = listed.ids;
     let measured = listed.lengths;
     batch_parts(
+        record,
         numbers,
         &bytes,
         versions,
@@ -98,7 +116,7 @@ fn batch_rows(
 
 // Appends the batch that a line hands in: how many versions and rows, the bytes of index, sections and data, then lists
 // behind their labels.
-fn batch_line(numbers: &[i64], lists: &[u8], file: &mut [u8]) -> Batched {
+fn batch_line(record: &mut [u8], numbers: &[i64], lists: &[u8], file: &mut [u8]) -> Batched {
     let mut versions = [0i32; 65];
     let mut values = [0i64; 325];
     let mut counts = [[0u64; 5]; 65];
@@ -108,6 +126,7 @@ fn batch_line(numbers: &[i64], lists: &[u8], file: &mut [u8]) -> Batched {
     let entries = at_most(65, bits_at(numbers, 0));
     let count = at_most(65, bits_at(numbers, 1));
     batch_rows(
+        record,
         numbers,
         lists,
         counted.next,
@@ -126,16 +145,23 @@ fn batched(name: &[u8], answer: Batched, room: &[u8], lent: usize)
     if answer.accepted == 0 {
         compared(name, room, 0, lent);
     }
-    end(name);
 }
 
 // Appends a batch to the lent bytes: the line of a case that has a name, or of a refusal.
-pub(crate) fn batch_in(numbers: &[i64], lists: &[u8], name: &[u8], room: &mut [u8], lent: usize)
+pub(crate) fn batch_in(
+    record: &mut [u8],
+    numbers: &[i64],
+    lists: &[u8],
+    name: &[u8],
+    room: &mut [u8],
+    lent: usize,
+)
     requires { ⌜ (length (now room) ≡ 1623632) × (lent ≤ 789176) ⌝ }
 {
     save(room, lent);
-    let answer = batch_line(numbers, lists, &mut room[0..lent]);
+    let answer = batch_line(record, numbers, lists, &mut room[0..lent]);
     if name.len() != 0 || answer.refusal != 0 {
         batched(name, answer, room, lent);
+        end_call(name, record, &room[0..lent]);
     }
 }

@@ -68,7 +68,7 @@ pub(crate) fn every_in(asked: u64, name: &[u8], room: &mut [u8], lent: usize)
     openings(name, &room[0..lent], asked);
     readings(name, &room[0..lent], asked);
     save(room, lent);
-    let answer = append_line(&[1, 4, 0, 0], b" words 9", &mut room[0..lent]);
+    let answer = append_line(&mut [], &[1, 4, 0, 0], b" words 9", &mut room[0..lent]);
     print(EVERY_END, 0, name, answer.refusal as u64, 0, 0, 0);
     compared(name, room, 0, lent);
     end(name);

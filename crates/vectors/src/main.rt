@@ -5,6 +5,7 @@ mod batching;
 mod every;
 mod files;
 mod first_record;
+mod holding;
 mod lists;
 mod printing;
 mod reading;
@@ -27,6 +28,9 @@ use files::take;
 use first_record::described;
 use first_record::extended;
 use first_record::validated;
+use holding::HELD;
+use holding::alter_in;
+use holding::open_in;
 use libc::STDIN_FILENO;
 use printing::wrong;
 use reading::bits_at;
@@ -64,7 +68,15 @@ fn ask(command: usize, a: u64, b: u64, name: &[u8], file: &[u8]) {
 }
 
 // Runs a command on the lent bytes.
-fn run(command: usize, values: &[i64], rest: &[u8], name: &[u8], room: &mut [u8], lent: usize)
+fn run(
+    command: usize,
+    values: &[i64],
+    rest: &[u8],
+    name: &[u8],
+    record: &mut [u8],
+    room: &mut [u8],
+    lent: usize,
+)
     requires { ⌜ (length (now room) ≡ 1623632) × (lent ≤ 789176) ⌝ }
 {
     let a = bits_at(values, 0);
@@ -78,10 +90,17 @@ fn run(command: usize, values: &[i64], rest: &[u8], name: &[u8], room: &mut [u8]
         5 => put(room, lent, bytes_before(a), 4, values),
         6 => put(room, lent, bytes_before(a), 8, values),
         7 => create_in(values, name, room, lent),
-        8 => append_in(values, rest, name, room, lent),
+        8 => append_in(&mut [], values, rest, name, room, lent),
         9 => every_in(a, name, room, lent),
-        20 => batch_in(values, rest, name, room, lent),
-        21 => update_in(values, rest, name, room, lent),
+        20 => batch_in(&mut [], values, rest, name, room, lent),
+        21 => update_in(&mut [], values, rest, name, room, lent),
+        22 => append_in(record, values, rest, name, room, lent),
+        23 => batch_in(record, values, rest, name, room, lent),
+        24 => update_in(record, values, rest, name, room, lent),
+        25 => {
+            open_in(name, record, &room[0..lent]);
+        }
+        26 => alter_in(values, record, &room[0..lent]),
         _ => ask(command, a, b, name, &room[0..lent]),
     }
 }
@@ -90,13 +109,13 @@ fn run(command: usize, values: &[i64], rest: &[u8], name: &[u8], room: &mut [u8]
 fn takes(command: usize, count: usize, more: bool) -> bool {
     match command {
         2 | 3 => more && count == 0,
-        8 => count == 4,
-        20 => count == 5,
-        21 => count == 3,
+        8 | 22 => count == 4,
+        20 | 23 => count == 5,
+        21 | 24 => count == 3,
         4 | 5 | 6 => !more,
         7 => !more && count == 8,
-        0 | 16 | 19 => !more && count == 2,
-        10 | 11 | 18 => !more && count == 0,
+        0 | 16 | 19 | 26 => !more && count == 2,
+        10 | 11 | 18 | 25 => !more && count == 0,
         1 | 9 | 12 | 13 | 14 | 15 | 17 => !more && count == 1,
         _ => false,
     }
@@ -120,7 +139,14 @@ fn lent_after(command: usize, a: u64, lent: usize) -> usize
 }
 
 // Reads the numbers of a command and runs it; answers how many bytes are lent then.
-fn run_command(command: usize, args: &[u8], name: &[u8], room: &mut [u8], lent: usize) -> usize
+fn run_command(
+    command: usize,
+    args: &[u8],
+    name: &[u8],
+    record: &mut [u8],
+    room: &mut [u8],
+    lent: usize,
+) -> usize
     requires { ⌜ (length (now room) ≡ 1623632) × (lent ≤ 789176) ⌝ }
     ensures { λ r. ⌜ r ≤ 789176 ⌝ }
 {
@@ -134,12 +160,12 @@ fn run_command(command: usize, args: &[u8], name: &[u8], room: &mut [u8], lent: 
     }
     let values = &numbers[0..count];
     let after = lent_after(command, bits_at(values, 0), lent);
-    run(command, values, rest, name, room, after);
+    run(command, values, rest, name, record, room, after);
     after
 }
 
 // Runs a line of the script: a command, its numbers, and behind a colon and a space the name of a case.
-fn run_line(line: &[u8], room: &mut [u8], lent: usize) -> usize
+fn run_line(line: &[u8], record: &mut [u8], room: &mut [u8], lent: usize) -> usize
     requires { ⌜ (length (now room) ≡ 1623632) × (lent ≤ 789176) ⌝ }
     ensures { λ r. ⌜ r ≤ 789176 ⌝ }
 {
@@ -151,22 +177,22 @@ fn run_line(line: &[u8], room: &mut [u8], lent: usize) -> usize
     let head = &line[0..colon];
     let end = find(head, 0, b' ');
     let command = position(
-        b"file lend keep take put1 put4 put8 create append every validate describe extension open tables index section data check words batch update",
+        b"file lend keep take put1 put4 put8 create append every validate describe extension open tables index section data check words batch update append_through batch_through update_through hold alter",
         &head[0..end],
     );
     let name = bytes_of(line, colon + 2, line.len());
-    run_command(command, &head[end..], name, room, lent)
+    run_command(command, &head[end..], name, record, room, lent)
 }
 
 // Runs the lines of a script.
-fn run_lines(script: &[u8], room: &mut [u8])
+fn run_lines(script: &[u8], record: &mut [u8], room: &mut [u8])
     requires { ⌜ length (now room) ≡ 1623632 ⌝ }
 {
     let mut lent = 0;
     let mut at = 0;
     while at < script.len() {
         let end = find(script, at, b'\n');
-        lent = run_line(&script[at..end], room, lent);
+        lent = run_line(&script[at..end], record, room, lent);
         at = end + 1;
     }
 }
@@ -184,10 +210,11 @@ fn space() -> [u8; ROOM] {
 // Reads the script and runs it.
 fn main() {
     let mut script = unread();
+    let mut record = [0u8; HELD];
     let mut room = space();
     let count = io::read_full(STDIN_FILENO, &mut script);
     if count == script.len() {
         wrong();
     }
-    run_lines(&script[..count], &mut room);
+    run_lines(&script[..count], &mut record, &mut room);
 }

@@ -54,7 +54,15 @@ pub(crate) const BATCH: usize = 46;
 
 pub(crate) const UPDATE: usize = 48;
 
-pub(crate) const END: usize = 50;
+pub(crate) const OPEN_FILE: usize = 50;
+
+pub(crate) const TOTALS: usize = 52;
+
+pub(crate) const RECORD: usize = 54;
+
+pub(crate) const TRUE: usize = 56;
+
+pub(crate) const END: usize = 58;
 
 // Writes one byte.
 fn single(byte: u8) {
@@ -139,12 +147,17 @@ pub(crate) fn print(form: usize, refusal: u64, name: &[u8], a: u64, b: u64, c: u
         words| no words|words %:|| A| x&|\
         check %: passes\n|check %: entry A refused R\n|\
         create %: accepted|create %: refused R| validate A\n|\n|\
-        append %: entry A\n|append %: refused R| \
+        append %: entry A|append %: refused R| \
         unchanged| changed|\
         every call, %: validate A extension B open C index D|| \
         section A data B check C D|| append A||\
         batch %: accepted A|batch %: accepted A refused R|\
-        update %: accepted\n|update %: refused R|\n||";
+        update %: accepted|update %: refused R|\
+        open file %: order A reclen B kind C vind D|\
+        open file %: refused R order A reclen B kind C vind D| \
+        totals|| \
+        record unchanged| record changed| \
+        and true| and false|\n||";
     spell(forms, chosen(form, refusal), refusal, name, a, b, c, d);
 }
 
