@@ -55,8 +55,8 @@ extern "C" {
    and with it the record that is lent to them. The buffers of one call must not overlap: append's file, index words,
    identifiers, lengths, section bytes and data are apart, so are append_batch's, with versions and counts, and so are
    update's file and content; a record is apart from them all. The file and byte buffers need no alignment; versions,
-   counts, ids, lengths and a record are aligned as their types are. An empty buffer may be (NULL, 0). Calls that only
-   read may share a file between threads.
+   counts, ids, lengths and a record are aligned as their types are. An empty buffer may be (NULL, 0); a record is never
+   NULL. Calls that only read may share a file between threads.
 
    Answers are given by value and belong to the caller. A part is a place in the lent file, not a copy: its bytes are
    file + start to file + start + length, as long as the file is lent and unchanged. Each answer has a refusal, 0
