@@ -6,6 +6,7 @@ use crate::batches;
 use crate::damage::{codes, edges, fields, random_damage, turned, Field};
 use crate::examples::examples;
 use crate::files::{self, area_words, make, make_full, most_extensions, put_bare, together, Made, Shape};
+use crate::filling;
 use crate::held;
 use crate::random::Random;
 use crate::reference::{self, Addition, Order, Settings};
@@ -18,7 +19,7 @@ use crate::updates::{self, any_update};
 pub type Kind = fn(&mut Random, &mut Script);
 
 /// How many cases there are of each kind in each order, one kind after another.
-const PLAN: [(usize, Kind); 40] = [
+const PLAN: [(usize, Kind); 43] = [
     (1, examples),
     (20, every_edge),
     (6, last_of_64),
@@ -55,6 +56,9 @@ const PLAN: [(usize, Kind); 40] = [
     (8, held::grown),
     (3, held::great_totals),
     (39, held::both_ways),
+    (300, filling::small),
+    (60, filling::to_the_end),
+    (4, filling::about_16384),
     (SERIES, series::of_appends),
     (BATCH_SERIES, series::with_batches),
     (UPDATE_SERIES, series::with_updates),

@@ -1,10 +1,11 @@
 //! The examples that document 01 works by hand, with the capacities of Q-2 in document 02 and in both orders of Q-4, and
-//! those of, as the first cases: the reference must give the numbers and bytes written here, and
-//! the library is compared with the reference.
+//! those of, as the first cases: the reference must give the numbers and bytes written here,
+//! and the library is compared with the reference.
 
 use crate::files::make_full;
 use crate::random::Random;
 use crate::reference::{Addition, Batch, OpenFile, Order, Settings, Update, FIELDS};
+use crate::room::starts;
 use crate::script::{Call, Script};
 use crate::sweeps::laid;
 
@@ -47,6 +48,7 @@ pub fn examples(_: &mut Random, script: &mut Script) {
     updates(script);
     record_of_a(script);
     false_records(script);
+    room(script);
 }
 
 /// P1 to P5 and the listing: file A, and with a record fewer.
@@ -336,5 +338,32 @@ fn false_records(script: &mut Script) {
         expect(script, "Q-5", Call::UpdateTo(update.clone()), &[27]);
         expect(script, "Q-5", Call::UpdateTo(Update::default()), &[27]);
         assert!(script.held == held && script.file == file[..size], "the reference changes what it refuses by 27");
+    }
+}
+
+/// file A after (2), with 6 records and with 5, and a file with reclen 17 and lex1 1 after one entry: every
+/// position from which the search finds room for so many words, and what an append of so many answers.
+fn room(script: &mut Script) {
+    let [first, second, third] = additions();
+    for (records, rows) in
+        [(6, [(11, 100..110, 0), (20, 100..101, 0), (21, 0..0, 24)]), (5, [11, 12, 13].map(|words| (words, 0..0, 24)))]
+    {
+        script.lend(&vec![0xff; 80 * records], 80 * records);
+        expect(script, "creating A", Call::Create(settings(script.order, 20, 4, 2, 20)), &[0]);
+        expect(script, "A by a batch", Call::AppendBatch(laid(&[first.clone(), second.clone()])), &[0, 2]);
+        let file = script.file.clone();
+        for (words, found, refusal) in rows {
+            assert_eq!(starts(&file, words), found.collect::<Vec<_>>(), "the search fails Q-13");
+            script.lend(&file, file.len());
+            let entry = Addition { data: vec![9; 4 * (words as usize - 11)], ..third.clone() };
+            expect(script, "Q-13", Call::Append(entry), &[refusal]);
+        }
+    }
+    for records in [3, 9] {
+        script.lend(&vec![0xff; 68 * records], 68 * records);
+        expect(script, "Q-13, reclen 17", Call::Create(settings(script.order, 17, 4, 1, 20)), &[0]);
+        expect(script, "Q-13, reclen 17", Call::Append(second.clone()), &[0, 1]);
+        assert_eq!(starts(&script.file, 11), [0; 0], "the search fails Q-13");
+        expect(script, "Q-13, reclen 17", Call::Append(third.clone()), &[23, 0]);
     }
 }

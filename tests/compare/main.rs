@@ -9,9 +9,11 @@ mod demand;
 mod driver;
 mod examples;
 mod files;
+mod filling;
 mod held;
 mod random;
 mod reference;
+mod room;
 mod script;
 mod series;
 mod sweeps;
@@ -20,6 +22,7 @@ mod updates;
 
 use driver::{Driver, Given};
 use reference::{Order, FIELDS};
+use room::Searched;
 use script::{Asked, Call, Script, CALLS};
 use table::Table;
 
@@ -40,8 +43,8 @@ struct Options {
     driver: Vec<String>,
 }
 
-/// What was compared and what differed so far: calls by their place in CALLS and by the number of their order, series by
-/// the number of theirs.
+/// What was compared and what differed so far: calls by their place in CALLS and by the number of their order, series and
+/// entries searched for by the number of theirs.
 #[derive(Default)]
 struct Comparison {
     options: Options,
@@ -53,6 +56,8 @@ struct Comparison {
     records: usize,
     differing_records: usize,
     series: [Series; 2],
+    searched: [Searched; 2],
+    differing_room: [usize; 2],
     shown: usize,
     table: Table,
 }
@@ -159,6 +164,7 @@ impl Comparison {
         }
         self.compare_files(case, i, asked, given);
         self.compare_records(case, i, asked, given);
+        self.compare_room(case, i, asked, given);
     }
 
     /// Compares the file after a call that may change it.
@@ -186,6 +192,18 @@ impl Comparison {
             let (field, ours, theirs) = (FIELDS[at], ours[at], theirs[at]);
             let what = format!("{field} of the record is {theirs} by the library, {ours} by the reference");
             self.show(case, i, &format!("{}: {what}", asked.call.described()));
+        }
+    }
+
+    /// Holds an answer about room to a search of the file before it, where one is made.
+    fn compare_room(&mut self, case: usize, i: usize, asked: &Asked, given: &Given) {
+        let Some(before) = &asked.before else {
+            return;
+        };
+        let order = asked.order as usize;
+        if let Some(fault) = room::fault(before, &asked.call, given, &mut self.searched[order]) {
+            self.differing_room[order] += 1;
+            self.show(case, i, &format!("{}: {fault}", asked.call.described()));
         }
     }
 
@@ -230,6 +248,12 @@ impl Comparison {
             let kinds = format!("{} batches, {} calls through a record", series.batches, series.through);
             let things = format!("series with {kinds}, appends {appends}, updates {updates}");
             judge(&format!("demand 3, {}", order.name()), &things, series.made, series.failed);
+        }
+        for (order, (searched, differing)) in Order::BOTH.iter().zip(self.searched.iter().zip(self.differing_room)) {
+            let [with, without_23, without_24] = searched;
+            let things = format!("entries with a place by a search, {without_23} without by 23, {without_24} by 24");
+            let made = if searched.contains(&0) { 0 } else { *with };
+            judge(&format!("room, {}", order.name()), &things, made, differing);
         }
     }
 

@@ -223,7 +223,7 @@ impl Descriptor {
     }
 
     /// The capacity of extension k.
-    fn capacity(&self, k: i128) -> i128 {
+    pub fn capacity(&self, k: i128) -> i128 {
         capacity(self.lex1, self.gex, k)
     }
 
@@ -233,7 +233,7 @@ impl Descriptor {
     }
 
     /// The records of an index area with this capacity.
-    fn records(&self, capacity: i128) -> i128 {
+    pub fn records(&self, capacity: i128) -> i128 {
         whole(capacity * self.lind, self.reclen)
     }
 

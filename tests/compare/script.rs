@@ -59,18 +59,19 @@ pub struct Answer {
 }
 
 /// A call of a script, the order that it counts for, the reference's answer, after a call that may change the file the
-/// file's bytes, and after a call through a record the record.
+/// file's bytes, and where room is searched for those before it too, and after a call through a record the record.
 pub struct Asked {
     pub order: Order,
     pub call: Call,
     pub answer: Answer,
+    pub before: Option<Vec<u8>>,
     pub after: Option<Vec<u8>>,
     pub held: Option<OpenFile>,
 }
 
 /// A case as it grows: the order of its files, and its place among the cases of its kind and order; the driver's
 /// message, the calls asked so far, the file as lent and as it is now, the record that is held and how calls go through
-/// one; and, where a call is watched, the file before it.
+/// one; whether room is searched for; and, where a call is watched, the file before it.
 pub struct Script {
     pub order: Order,
     pub turn: usize,
@@ -80,6 +81,7 @@ pub struct Script {
     pub file: Vec<u8>,
     pub held: OpenFile,
     pub through: Through,
+    pub searches: bool,
     watched: Option<usize>,
     pub watched_file: Vec<u8>,
 }
@@ -347,8 +349,9 @@ impl Script {
     /// A case that begins with a record of zeros, in which a call may be watched.
     pub fn new(order: Order, turn: usize, watched: Option<usize>) -> Script {
         let (message, lent, file, watched_file) = (vec![], vec![], vec![], vec![]);
-        let (asked, held, through) = (vec![], [0; FIELDS.len()], Through::Nothing);
-        let mut script = Script { order, turn, message, asked, lent, file, held, through, watched, watched_file };
+        let (asked, held, through, searches) = (vec![], [0; FIELDS.len()], Through::Nothing, false);
+        let mut script =
+            Script { order, turn, message, asked, lent, file, held, through, searches, watched, watched_file };
         script.hold(held);
         script
     }
@@ -425,11 +428,12 @@ impl Script {
         }
         call.encode(&mut self.message, (self.turn + self.asked.len()) % 2 == 0);
         let order = self.order_of(&call);
+        let before = (self.searches && call.changes_file()).then(|| self.file[..self.lent.len()].to_vec());
         let answer = call.answer(&mut self.file, &mut self.held);
         let refusal = answer.refusal;
         let after = call.changes_file().then(|| self.file[..self.lent.len()].to_vec());
         let held = call.takes_record().then_some(self.held);
-        self.asked.push(Asked { order, call, answer, after, held });
+        self.asked.push(Asked { order, call, answer, before, after, held });
         refusal
     }
 

@@ -52,7 +52,8 @@ module _ (f g : List ℕ) (z : fileRefusal f ≡ 0) (first : part g 0 (4 * numbe
   head8-alike : (w : WordNumber) → ltb (w .0 - 1) 15 ≡ true → field8 g w ≡ field8 f w
   head8-alike w h = field8-alike w (omega (arith, ltb-true, admits .settled .reclen-low))
 
-  numbers-alike : numbersOf g ≡ d
+  -- the second file has the numbers of the first, whatever its length
+  pub numbers-alike : numbersOf g ≡ d
   unfolding numbersOf
   numbers-alike = simp (order, field4-alike, head8-alike)
 

@@ -4,6 +4,7 @@ use mathlib.Core.Path.{_≡_, refl, ap, _∙_}
 use mathlib.Core.Bool.{Bool, true, false, cond}
 use native.Mathlib.Omega.{arith}
 use native.Mathlib.Nat.{div-add-mod', mul-le-mul, mul-le-mul-left, mul-le-mul-right}
+use Rattle.geometry.specs.declared.units.RecordNumber.{RecordNumber}
 use Rattle.geometry.specs.Units.{positionOf}
 use Rattle.geometry.specs.Growth.{capacityOf}
 use Rattle.geometry.specs.Area.{recordsFor, areaRecords}
@@ -76,6 +77,13 @@ module _ (d : DescriptorNumbers) where
     -- and less than a record behind it
     pub new-near : newStart d < freeOf d + d .reclen
     new-near = rw new-position (records-under (freeOf d) (d .reclen) (omega (arith, s .reclen-low)))
+
+    -- no record starts between them
+    pub new-first : (r : RecordNumber) → freeOf d ≤ positionOf (d .reclen) r (record { 0 = 1 }) → newStart d ≤ positionOf (d .reclen) r (record { 0 = 1 })
+    unfolding positionOf
+    new-first r h =
+        let least = records-least (freeOf d) (d .reclen) (r .0 - 1) (omega (arith, s .reclen-low)) (omega arith) in
+        omega (arith, new-position, mul-le-mul-right (d .reclen) least)
 
     -- it holds its first slot
     pub new-slot : newStart d + d .lind ≤ newEnd

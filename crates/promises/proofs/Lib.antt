@@ -37,6 +37,8 @@ pub mod Orders
 pub mod OrderAgain
 pub mod Demand3
 pub mod Records
+pub mod RoomPlaces
+pub mod RoomMeans
 pub mod LastUpdated
 pub mod Leftovers
 pub mod WrittenOnce

@@ -71,7 +71,7 @@ module _ (file : List ℕ) (held : OpenFile) where
   n = heldRefusal file held
 
   -- a record is true, or false
-  by-record {ℓ} : {X : Type ℓ} → (TrueOf file held → X) → ((TrueOf file held → ⊥) → X) → X
+  pub by-record {ℓ} : {X : Type ℓ} → (TrueOf file held → X) → ((TrueOf file held → ⊥) → X) → X
   by-record f g = either (eqb n 0) (λ q. f (held-true file held (eqb-true n 0 q))) (λ q. g (λ t. eqb-false n 0 q (true-held file held t)))
 
   -- through a true record a call comes to what it does without it, and to the record of the file that it leaves

@@ -32,7 +32,7 @@ use Rattle.held.specs.Rules.{heldRefusal}
 use Rattle.through.specs.Answers.{appendThrough, batchThrough, updateThrough}
 use Rattle.promises.specs.FileA.{A}
 use Rattle.promises.specs.Examples.{AllMatch, EachMatches, examples, entry, withSection, withoutSection, Differ}
-use Rattle.promises.specs.RequestExamples.{batchExamples, growthExamples, updateExamples, orderExamples, recordExamples, writesExamples, leftoverExamples, requestExamples}
+use Rattle.promises.specs.RequestExamples.{batchExamples, growthExamples, updateExamples, orderExamples, recordExamples, writesExamples, leftoverExamples, roomExamples, requestExamples}
 
 -- a row's proof and those of the rows behind it
 infixr 60 _&_
@@ -140,9 +140,17 @@ leftover-examples =
     refl & refl & refl & refl & refl & refl & refl & refl & refl & refl & refl &
     record {}
 
+room-examples : AllMatch roomExamples
+unfolding roomExamples seen
+room-examples =
+    -- Q-13
+    refl & refl & refl & refl & refl & refl & refl & refl & refl &
+    refl & refl & refl & refl & refl & refl & refl & refl & refl &
+    record {}
+
 -- every row of the tables of the requests
 pub request-examples : EachMatches requestExamples
-request-examples = batch-examples & growth-examples & update-examples & order-examples & record-examples & writes-examples & leftover-examples & record {}
+request-examples = batch-examples & growth-examples & update-examples & order-examples & record-examples & writes-examples & leftover-examples & room-examples & record {}
 
 -- the first entries of two files differ
 pub first-entries : Differ (openOf withSection (entry 1) .answer) (openOf withoutSection (entry 1) .answer)

@@ -10,6 +10,7 @@ pub mod Leftovers
 pub mod WrittenOnce
 pub mod Batches
 pub mod Records
+pub mod Room
 pub mod Updates
 pub mod UpdateAnswers
 pub mod FileA

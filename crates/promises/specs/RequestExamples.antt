@@ -1,5 +1,6 @@
 -- Cases of the requests of 02, worked by hand, a table for each request. A row has the number of its request, what the definitions give, and what 02 says or the rules give by hand.
 use Prim.Native.Nat.{ℕ, _+_, _*_, _-_, _/_, _^_}
+use mathlib.Core.Bool.{Bool, true, false, cond, _||_}
 use mathlib.Core.List.{List, [], _∷_, _++_, map}
 use lib.IntN.{ℤ, pos, negℤ}
 use lib.ListN.{length, getD, set, take, drop, replicate}
@@ -9,11 +10,12 @@ use Rattle.geometry.specs.declared.units.RecordNumber.{RecordNumber}
 use Rattle.geometry.specs.Units.{offsetOf, recordNumbers}
 use Rattle.geometry.specs.Growth.{growthOf, capacityOf}
 use Rattle.descriptor.specs.declared.numbers.DescriptorNumbers.{DescriptorNumbers}
+use Rattle.descriptor.specs.FirstRecord.{numbersOf}
 use Rattle.descriptor.specs.Rules.{fileRefusal}
 use Rattle.descriptor.specs.Answers.{validationOf, noValidation}
 use Rattle.entry.specs.Answers.{openOf, openCase}
 use Rattle.handing.specs.Parts.{sectionWordsOf, dataWordsOf, bytesOf, noPart}
-use Rattle.storing.specs.Handed.{handedIn}
+use Rattle.storing.specs.Handed.{Handed, handedIn}
 use Rattle.writer.specs.Creation.{creationRefusal, createdFile}
 use Rattle.writer.specs.Answers.{appendOf, fileAfter}
 use Rattle.batch.specs.declared.batching.Batched.{Batched}
@@ -27,6 +29,7 @@ use Rattle.through.specs.Answers.{appendThrough, batchThrough, updateThrough}
 use Rattle.promises.specs.Contents.{numbersIn, openedIn, found, sectionFound}
 use Rattle.promises.specs.Calls.{following}
 use Rattle.promises.specs.WrittenOnce.{writesOf, timesWritten}
+use Rattle.promises.specs.Room.{EntryPlace, mayExtend, admissible, placeIn}
 use Rattle.promises.specs.FileA.{settingsIn, settings, lent, append1, append2, append3, created, after1, after2, A, bigA, twoSections}
 use Rattle.promises.specs.ByHand.{wordsAt, word, twoWords, little, big, zeroWords, firstRecord, entryHead, slot}
 use Rattle.promises.specs.Examples.{Row, entry, aex, at, identifierFirst, opensAt, filled, numbersRefusal, imageWith}
@@ -410,8 +413,70 @@ leftoverExamples =
     Q 7 (fileRefusal (createdFile (leftIn 20 A) (settings 20 4 2 20))) 0 ∷
     []
 
+-- ---- Q-13
+
+-- one of these numbers passes a test
+abbrev pub someOf : (ℕ → Bool) → List ℕ → Bool
+someOf test [] = false
+someOf test (k ∷ ks) = test k || someOf test ks
+
+-- those that do
+abbrev pub allOf : (ℕ → Bool) → List ℕ → List ℕ
+allOf test [] = []
+allOf test (k ∷ ks) = cond (test k) (k ∷ allOf test ks) (allOf test ks)
+
+-- the position of an entry's first word, and the record of a new index area before it
+abbrev pub standing : ℕ → ℕ → EntryPlace
+standing start area = record { start = start; area = aex area }
+
+-- every position of a buffer of so many records at which an entry of nword words has an admissible place, with the area at one of its records
+abbrev pub startsIn : ℕ → DescriptorNumbers → ℕ → List ℕ
+startsIn records d nword =
+    let words = records * d .reclen in
+    allOf (λ start. someOf (λ area. admissible (offsetOf words) d nword (standing start area)) (following 0 records)) (0 ∷ following 0 (words - 1))
+
+-- an entry with so many words of data and nothing else, of 11 words more
+abbrev pub withData : ℕ → Handed
+withData words = handedIn (pos 1) (following 220 4) [] [] [] (following 0 (offsetOf words))
+
+-- a file of so many records of 17 words, of which mex is 1, with lex1 1, after an entry of 11 words: its index takes record 2, the entry words 1 to 11 of record 3
+abbrev pub oneOnly : ℕ → List ℕ
+oneOnly records = fileAfter (imageWith (offsetOf (17 * records)) (settings 17 4 1 20)) append2
+
+-- its rows: room
+unfoldable pub roomExamples : List Row
+roomExamples =
+    -- A after (2), with 6 records and with 5: two entries fill the first extension, and the next free word is record 4 word 16, position 75
+    Q 13 (numbersOf (after2 6)) (record2 .numbers) ∷
+    Q 13 (numbersOf (after2 5)) (record2 .numbers) ∷
+    -- append (3) has 11 words, and the area of 4 slots takes a record. With 6 records there is room at record 6 word 1, position 100, with the area at record 5;
+    -- and up to position 109, from which the entry reaches the buffer's end. With 5 there is none
+    Q 13 (admissible 480 (record2 .numbers) 11 (standing 100 5)) true ∷
+    Q 13 (startsIn 6 (record2 .numbers) 11) (following 99 10) ∷
+    Q 13 (startsIn 5 (record2 .numbers) 11) [] ∷
+    -- an area at record 4 starts before the next free word, and one at record 6 reaches into the entry
+    Q 13 (map (λ area. admissible 480 (record2 .numbers) 11 (standing 109 area)) (4 ∷ 5 ∷ 6 ∷ [])) (false ∷ true ∷ false ∷ []) ∷
+    -- append (3) takes the first of these places
+    Q 13 (placeIn A (entry 3)) (standing 100 5) ∷
+    -- an entry of 20 words has this place alone; one of 21 has none, and its append gives 24
+    Q 13 (startsIn 6 (record2 .numbers) 20) (100 ∷ []) ∷
+    Q 13 (startsIn 6 (record2 .numbers) 21) [] ∷
+    Q 13 (map (λ words. appendOf (after2 6) (withData words) .refusal) (9 ∷ 10 ∷ [])) (0 ∷ 24 ∷ []) ∷
+    -- in A itself the second extension has slots: from the next free word, record 6 word 12, an entry of 9 words would have room; the 11 of an append have none
+    Q 13 (startsIn 6 (recordA .numbers) 9) (111 ∷ []) ∷
+    Q 13 (startsIn 6 (recordA .numbers) 11) [] ∷
+    Q 13 (appendOf A append3 .refusal) 24 ∷
+    -- reclen 17, lex1 1, full: another extension is needed and may not be made. With 3 records, which have no room for 11 words, and with 9, which have
+    Q 13 (map (λ records. appendOf (oneOnly records) append3 .refusal) (3 ∷ 9 ∷ [])) (23 ∷ 23 ∷ []) ∷
+    Q 13 (startsIn 9 (numbersOf (oneOnly 9)) 11) [] ∷
+    -- lex1 2,500, gex 16: extension 5 has 16,384 entries and may be made; lex1 1,154, gex 17: extension 6 has 16,385 and may not
+    Q 13 (mayExtend (filled (settings 46 4 2500 16) 23141 2 4)) true ∷
+    Q 13 (capacityOf (growthOf 1154 17) 6) 16385 ∷
+    Q 13 (mayExtend (filled (settings 46 4 1154 17) 21758 2 5)) false ∷
+    []
+
 -- ---- the tables
 
 -- those of all requests, in their order
 abbrev pub requestExamples : List (List Row)
-requestExamples = batchExamples ∷ growthExamples ∷ updateExamples ∷ orderExamples ∷ recordExamples ∷ writesExamples ∷ leftoverExamples ∷ []
+requestExamples = batchExamples ∷ growthExamples ∷ updateExamples ∷ orderExamples ∷ recordExamples ∷ writesExamples ∷ leftoverExamples ∷ roomExamples ∷ []
