@@ -35,24 +35,41 @@ pub record EntryPlace : Type 0 where
 abbrev pub needsArea : DescriptorNumbers → Bool
 needsArea d = ltb (totalOf (growthIn d) (d .nex)) (d .xnext .0)
 
+-- the first record has a place for the address of another extension: nex is below mex
+abbrev pub belowMex : DescriptorNumbers → Bool
+belowMex d = ltb (d .nex) (mexOf (d .reclen))
+
 -- the capacity that the next extension has
 abbrev pub capacityNext : DescriptorNumbers → ℕ
 capacityNext d = capacityOf (growthIn d) (d .nex + 1)
 
--- it may be made: nex is below mex, and that capacity is at most 16,384
-abbrev pub mayExtend : DescriptorNumbers → Bool
-mayExtend d = ltb (d .nex) (mexOf (d .reclen)) && leb (capacityNext d) 16384
+-- it is admitted: at most 16,384
+abbrev pub capacityAdmitted : DescriptorNumbers → Bool
+capacityAdmitted d = leb (capacityNext d) 16384
 
--- its index area stands from record r on before a position: it starts at or after the next free word, and ends at or before that position
+-- so another extension may be made
+abbrev pub mayExtend : DescriptorNumbers → Bool
+mayExtend d = belowMex d && capacityAdmitted d
+
+-- a position is at or after the next free word
+abbrev pub fromFree : DescriptorNumbers → ℕ → Bool
+fromFree d p = leb (freeOf d) p
+
+-- the position where the new index area starts whose first record is r
+abbrev pub areaFirst : DescriptorNumbers → RecordNumber → ℕ
+areaFirst d r = positionOf (d .reclen) r (record { 0 = 1 })
+
+-- and where it ends, with its last record
+abbrev pub areaEnd : DescriptorNumbers → RecordNumber → ℕ
+areaEnd d r = areaFirst d r + areaRecords (capacityNext d) (d .lind) (d .reclen) * d .reclen
+
+-- it stands before an entry at a position: it starts at or after the next free word, and ends at or before that position
 abbrev pub areaStands : DescriptorNumbers → RecordNumber → ℕ → Bool
-areaStands d r start =
-    let first = positionOf (d .reclen) r (record { 0 = 1 }) in
-    let words = areaRecords (capacityNext d) (d .lind) (d .reclen) * d .reclen in
-    leb (freeOf d) first && leb (first + words) start
+areaStands d r start = fromFree d (areaFirst d r) && leb (areaEnd d r) start
 
 -- an entry of nword words stands at a position: at or after the next free word, and within a buffer of so many bytes
 abbrev pub entryStands : ℕ → DescriptorNumbers → ℕ → ℕ → Bool
-entryStands bytes d nword start = leb (freeOf d) start && leb (start + nword) (bytes / 4)
+entryStands bytes d nword start = fromFree d start && leb (start + nword) (bytes / 4)
 
 -- so a place is admissible: the entry stands there, and where a new area is needed, it may be made and stands before the entry
 abbrev pub admissible : ℕ → DescriptorNumbers → ℕ → EntryPlace → Bool
