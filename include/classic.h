@@ -217,14 +217,14 @@ classic_checked classic_check(const uint8_t *file, size_t bytes);
    and its bytes, which stand one after another in sections; then the data. All counts named bytes are in bytes. No word
    of the file is stored twice.
 
-   No room means it. Behind the tests of the file, 21 and 22, the answer is 23 or 24 exactly when the entry has no place:
-   no position at or after the next free word from which all its words stand within the bytes lent, and where a new
-   index area is needed, none with records from the next free word on, before it, that hold the area; gaps may be left.
-   It is 23 when a new extension is needed and none may be made: the file takes no further entry, however small and
-   however much is lent, and a new file is due. Else it is 24: this entry has no place in the bytes lent; a smaller one
-   may have, and so may this one where more records are lent. Words before the next free one are not looked at, as no
-   append fills a gap there. An accepted entry stands where it ends first. append_batch means the same of the entry that
-   it is refused for, and append_to and append_batch_to do. */
+   No room means it. Where the file passes its tests and the input 21 and 22, the answer is 23 or 24 exactly when the
+   entry has no place: no position at or after the next free word from which all its words stand within the bytes lent,
+   behind a new index area where one is needed, which itself starts with a record at or after the next free word; gaps
+   may be left. It is 23 when a new extension is needed and none may be made: the file takes no further entry, however
+   small it is and however much is lent, and a new file is due. Else it is 24: this entry has no place in the bytes
+   lent; a smaller one may have, and so may this one where more records are lent. Gaps before the next free word are no
+   places. An accepted entry stands at the place that ends first. A batch that is refused by 23 or 24 says the same of
+   the entry behind those that it accepted, and so do the calls through a record. */
 classic_appended classic_append(uint8_t *file, size_t bytes, int32_t version,
                                 const uint8_t *index, size_t index_bytes,
                                 const int32_t *ids, size_t id_count,

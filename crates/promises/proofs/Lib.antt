@@ -1,4 +1,4 @@
--- The theorems, from the inside out. Demand 3 is stated in Demand3; what a refusal means in RefusalMeans, ThroughMeans and CheckMeans, and what it leaves in RefusedAnswers; a batch beside single appends in Batches; what an update leaves in Updates, what it answers in UpdatesAnswered, and that a section reads as last updated in LastUpdated; what any call makes of a file in Making; calls through a record of the open file in Records.
+-- The theorems, from the inside out. Demand 3 is stated in Demand3; what a refusal means in RefusalMeans, ThroughMeans and CheckMeans, and what it leaves in RefusedAnswers; a batch beside single appends in Batches; what an update leaves in Updates, what it answers in UpdatesAnswered, and that a section reads as last updated in LastUpdated; what any call makes of a file in Making; calls through a record of the open file in Records; that no room means it in RoomMeans and RoomThrough.
 pub mod Areas
 pub mod SlotAreas
 pub mod Spread
@@ -39,6 +39,7 @@ pub mod Demand3
 pub mod Records
 pub mod RoomPlaces
 pub mod RoomMeans
+pub mod RoomThrough
 pub mod LastUpdated
 pub mod Leftovers
 pub mod WrittenOnce

@@ -1,17 +1,16 @@
--- "No room" means it (Q-13 of 02): what append answers of room, and that the place of an accepted entry is the best; so too for each entry of a batch, and for calls through
--- a record. Assumes nothing.
-use Prim.Native.Nat.{ℕ, zero, suc}
-use mathlib.Core.Path.{_≡_, refl, sym, ap, _∙_}
+-- "No room" means it (Q-13 of 02): what append answers of room, and that the place of an accepted entry is the best. Assumes nothing.
+use Prim.Native.Nat.{ℕ}
+use mathlib.Core.Path.{_≡_, refl, sym, _∙_}
 use mathlib.Core.Logic.{_↔_, inl, inr}
 use mathlib.Core.Bool.{true, false}
-use mathlib.Core.List.{List, [], _∷_}
+use mathlib.Core.List.{List}
 use native.Mathlib.Omega.{arith}
 use borrow.Author.Tests.{eqb-true, eqb-false}
 use lib.Dec.{eqb}
-use lib.ListN.{length, take, drop}
+use lib.ListN.{length}
 use Rattle.outcome.proofs.Either.{either}
-use Rattle.geometry.specs.declared.units.RecordNumber.{RecordNumber}
 use Rattle.image.specs.Image.{part}
+use Rattle.geometry.specs.declared.units.RecordNumber.{RecordNumber}
 use Rattle.geometry.specs.Units.{offsetOf}
 use Rattle.geometry.proofs.Positions.{position-place}
 use Rattle.descriptor.specs.declared.numbers.DescriptorNumbers.{DescriptorNumbers}
@@ -32,33 +31,18 @@ use Rattle.alike.proofs.FirstAlike.{numbers-alike}
 use Rattle.written.proofs.AppendLeaves.{then, areasThen}
 use Rattle.written.proofs.ReadBack.{admits, file-written, validated-after}
 use Rattle.written.proofs.Returned.{opened-again}
-use Rattle.batch.specs.Batch.{Batch, entriesIn}
-use Rattle.batch.specs.Rules.{batchRefusal}
-use Rattle.batch.specs.Answers.{batchOf, fileAfterBatch}
-use Rattle.held.specs.declared.answers.OpenFile.{OpenFile}
-use Rattle.held.specs.Record.{TrueOf}
-use Rattle.held.proofs.Held.{true-held}
-use Rattle.through.specs.Answers.{noAppend, appendThrough, batchThrough}
-use Rattle.through.proofs.Outcomes.{append-done, batch-done}
 use Rattle.promises.specs.Contents.{openedIn, startIn}
-use Rattle.promises.specs.Calls.{Call, refusalOf, answers}
 use Rattle.promises.specs.Tables.{validateTests}
-use Rattle.promises.specs.Batches.{singles, AllAccept, EndsBefore}
-use Rattle.promises.specs.Records.{callThrough}
-use Rattle.promises.specs.Room.{EntryPlace, Admissible, NoPlace, Unextendable, Ready, placeIn, NoRoom, BestPlace, RoomMeans, BestInTurn, MeansNext, BatchMeans}
+use Rattle.promises.specs.Room.{EntryPlace, Admissible, NoPlace, Unextendable, Ready, placeIn, NoRoom, BestPlace, RoomMeans}
 use Rattle.promises.proofs.Readings.{numbers-shown}
 use Rattle.promises.proofs.RefusalMeans.{EachNumber, refusal-among}
-use Rattle.promises.proofs.RefusedAnswers.{append-refused, append-kept}
 use Rattle.promises.proofs.AppendNumbers.{refusalThere, answer-there, accepted-file, number-there}
 use Rattle.promises.proofs.Scan.{by-file}
-use Rattle.promises.proofs.InTurn.{AllIntegers, entries-fit}
-use Rattle.promises.proofs.Batches.{as-singly}
-use Rattle.promises.proofs.Records.{by-record, through-27}
 use Rattle.promises.proofs.RoomPlaces.{start-first, own-place, by-placement}
 
--- ---- an append
+-- ---- the cases of a refusal
 
--- what a refusal says of file and input: they are not ready and it is none of 0, 23 and 24; or they are, and it is 23, 24 or 0
+-- file and input are not ready, and it is none of 0, 23 and 24; or they are, and it is 23, 24 or 0
 data Verdict (file : List ℕ) (h : Handed) (n : ℕ) : Type 0 where
   unready : (Ready file h → ⊥) → (n ≡ 0 → ⊥) → (NoRoom n → ⊥) → Verdict file h n
   unextended : Ready file h → n ≡ 23 → Unextendable file → NoPlace file h → Verdict file h n
@@ -70,6 +54,7 @@ some-room : {n : ℕ} → n ≡ 0 → NoRoom n → ⊥
 some-room e (inl q) = omega arith
 some-room e (inr q) = omega arith
 
+-- what each of the three says, exactly, by the cases
 module _ {file : List ℕ} {h : Handed} {n : ℕ} where
   is-accepted : Verdict file h n → (n ≡ 0) ↔ (Ready file h × ((p : EntryPlace) × Admissible file h p))
   is-accepted (unready never some other) = (λ e. absurd (some e), λ x. absurd (never (x .0)))
@@ -95,7 +80,9 @@ module _ {file : List ℕ} {h : Handed} {n : ℕ} where
   is-24 (outside r e u none) = (λ q. (r, none, u), λ x. e)
   is-24 (placed r e u p a) = (λ q. absurd (omega arith), λ x. absurd (x .1 p a))
 
--- the refusal of a table without 23 and 24 is neither
+-- ---- an append
+
+-- the refusal of a table without 23 and 24 is neither of them
 other : (rules : List Rule) → EachNumber (λ k. k ≡ 23 → ⊥) rules → EachNumber (λ k. k ≡ 24 → ⊥) rules → (refusalIn rules ≡ 0 → ⊥) → NoRoom (refusalIn rules) → ⊥
 other rules m n some (inl q) = refusal-among (λ k. k ≡ 23 → ⊥) rules m some q
 other rules m n some (inr q) = refusal-among (λ k. k ≡ 24 → ⊥) rules n some q
@@ -111,12 +98,12 @@ module _ (file : List ℕ) (h : Handed) where
   abbrev given : ℕ
   given = handedRefusal d (h .index) (h .ids) (h .lengths) (h .sections) (h .values)
 
-  -- such is the refusal of a file
+  -- nor is that of a file
   file-other : eqb (fileRefusal file) 0 ≡ false → NoRoom (fileRefusal file) → ⊥
   unfolding fileRefusal
   file-other q = other (validateTests file) (omega arith) (omega arith) (eqb-false (fileRefusal file) 0 q)
 
-  -- and that of what is handed in
+  -- nor that of what is handed in
   given-other : eqb given 0 ≡ false → NoRoom given → ⊥
   unfolding handedRefusal
   given-other q = other (handedRules d (h .index) (h .ids) (h .lengths) (h .sections) (h .values)) (omega arith) (omega arith) (eqb-false given 0 q)
@@ -126,13 +113,15 @@ module _ (file : List ℕ) (h : Handed) where
   unfolding appendIn
   file-refused q = rw (answer-refused file (fileRefusal file) refl q)
 
-  -- one to an admitted file answers by 21 and 22, and where these pass by the entry's place
+  -- one to an admitted file answers by 21 and 22
   given-refused : fileRefusal file ≡ 0 → eqb given 0 ≡ false → appendOf file h .refusal ≡ given
   given-refused z q = answer-there file h z ∙ append-parts d h (length file) ∙ rw q
 
+  -- and where these pass, by the entry's place
   by-place : Ready file h → appendOf file h .refusal ≡ placementRefusal (length file) d (nwordIn h)
   by-place r = answer-there file h (r .admitted) ∙ append-parts d h (length file) ∙ rw (r .handed)
 
+  -- so its refusal is one of the cases
   verdict : Verdict file h (appendOf file h .refusal)
   verdict =
       by-file file
@@ -160,17 +149,17 @@ module _ (file : List ℕ) (h : Handed) where
     shown : Validates after (then file x) (areasThen file x)
     shown = rw (file-written file h z a) (validated-after file z x)
 
-    -- the entry starts where it was put
+    -- it starts where it was put
     starts : startIn after (d .xnext) ≡ entryStart d
     unfolding numbersAfter
     starts = rw (numbers-shown after shown, opened-again file h g z a) (position-place (d .reclen) (entryStart d))
 
-    -- the last area is the new one, where one was made
+    -- the last area of the file is the new one, where one was made
     area-last : full d ≡ true → placeIn after (d .xnext) .area ≡ newArea d
     unfolding numbersAfter
     area-last q = rw (numbers-shown after shown, shown, nex-full d q) (address-new (length file) d addresses (x .admitted) (x .extensible) q)
 
-    -- and has the words that were handed in
+    -- it has the words that were handed in
     words : openedIn after (d .xnext) .nword ≡ nwordIn h
     words = rw (opened-again file h g z a)
 
@@ -183,13 +172,13 @@ module _ (file : List ℕ) (h : Handed) where
     }
 
   -- an accepted entry stands at the best place
-  stands-best : Integers h → appendOf file h .refusal ≡ 0 → BestPlace file h (fileAfter file h) (appendOf file h .number)
+  pub stands-best : Integers h → appendOf file h .refusal ≡ 0 → BestPlace file h (fileAfter file h) (appendOf file h .number)
   stands-best g e =
       let z = accepted-file file h e in
       let a = sym (answer-there file h z) ∙ e in
       rw (number-there file h z a) (stands g z a)
 
-  -- an append means what 02 asks
+  -- what an append means, to any file and with any input
   pub append-room : RoomMeans file h (appendOf file h) (fileAfter file h)
   append-room =
       let v = verdict in
@@ -203,53 +192,3 @@ takes-none file h e longer first other accepted =
     let ready = append-room longer other .accepted .0 accepted .0 in
     let again : appendOf longer other .refusal ≡ 23 = append-room longer other .by-23 .1 (ready, rw (numbers-alike file longer (said .0 .admitted) first) (said .1)) in
     omega arith
-
--- ---- a batch
-
--- the integers of the first of these entries are ones that their words can hold
-first-fit : (n : ℕ) (hs : List Handed) → AllIntegers hs → AllIntegers (take n hs)
-first-fit zero hs g = tt
-first-fit (suc n) [] g = tt
-first-fit (suc n) (h ∷ hs) g = (g .0, first-fit n hs (g .1))
-
--- appends in turn that are accepted stand each at the best place
-best-in-turn : (hs : List Handed) → AllIntegers hs → (file : List ℕ) → AllAccept (answers (singles hs) file) → BestInTurn file hs
-best-in-turn [] g file a = tt
-best-in-turn (h ∷ hs) g file a = (stands-best file h (g .0) (a .0), best-in-turn hs (g .1) (fileAfter file h) (a .1))
-
--- the refusal of the next means what it does of an append
-means-next : (hs : List Handed) (file : List ℕ) (n : ℕ) → EndsBefore hs file n → MeansNext hs file n
-means-next [] file n e = e
-means-next (h ∷ hs) file n e =
-    let some : appendOf file h .refusal ≡ 0 → ⊥ = λ q. e .1 (e .0 ∙ q) in
-    let answer : appendOf file h ≡ noAppend n = append-refused file h some ∙ ap noAppend (sym (e .0)) in
-    rw (answer, append-kept file h some) at (append-room file h)
-
--- a batch that is not refused as a whole means what its appends do
-pub batch-room : (file : List ℕ) (b : Batch) → batchRefusal b ≡ 0 → BatchMeans file b (batchOf file b) (fileAfterBatch file b)
-batch-room file b z =
-    let s = as-singly file b in
-    let n = batchOf file b .accepted in
-    record {
-      accepted = λ g. best-in-turn (take n (entriesIn b)) (first-fit n (entriesIn b) (entries-fit b g)) file (s .accepts);
-      ends = means-next (drop n (entriesIn b)) (fileAfterBatch file b) (batchOf file b .refusal) (s .ends z);
-    }
-
--- ---- through a record
-
-module _ (file : List ℕ) (held : OpenFile) where
-  -- through a true record an append means what it does without it
-  pub append-to-room : TrueOf file held → (h : Handed) → let x = appendThrough file held h in RoomMeans file h (x .answer) (x .file)
-  append-to-room t h = rw (append-done file held (true-held file held t) h) (append-room file h)
-
-  -- and so does a batch
-  pub batch-to-room : TrueOf file held → (b : Batch) → batchRefusal b ≡ 0 → let x = batchThrough file held b in BatchMeans file b (x .answer) (x .file)
-  batch-to-room t b z = rw (batch-done file held (true-held file held t) b z) (batch-room file b z)
-
-  -- a call that answers 23 or 24 went through a true one
-  pub room-true : (c : Call) → NoRoom (refusalOf (callThrough file held c .answer)) → TrueOf file held
-  room-true c q = by-record file held (λ t. t) (λ f. absurd (late q f))
-    where
-      late : NoRoom (refusalOf (callThrough file held c .answer)) → (TrueOf file held → ⊥) → ⊥
-      late (inl q) f = omega (arith, through-27 file held c f (λ o. omega arith))
-      late (inr q) f = omega (arith, through-27 file held c f (λ o. omega arith))

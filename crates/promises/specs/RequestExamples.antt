@@ -7,7 +7,7 @@ use lib.ListN.{length, getD, set, take, drop, replicate}
 use Rattle.image.specs.Image.{splice}
 use Rattle.image.specs.Writes.{Write, put}
 use Rattle.geometry.specs.declared.units.RecordNumber.{RecordNumber}
-use Rattle.geometry.specs.Units.{offsetOf, recordNumbers}
+use Rattle.geometry.specs.Units.{placeOf, offsetOf, recordNumbers}
 use Rattle.geometry.specs.Growth.{growthOf, capacityOf}
 use Rattle.descriptor.specs.declared.numbers.DescriptorNumbers.{DescriptorNumbers}
 use Rattle.descriptor.specs.FirstRecord.{numbersOf}
@@ -458,8 +458,8 @@ roomExamples =
     Q 13 (map (λ area. admissible 480 (record2 .numbers) 11 (standing 109 area)) (4 ∷ 5 ∷ 6 ∷ [])) (false ∷ true ∷ false ∷ []) ∷
     -- append (3) takes the first of these places
     Q 13 (placeIn A (entry 3)) (standing 100 5) ∷
-    -- an entry of 20 words has this place alone; one of 21 has none, and its append gives 24
-    Q 13 (startsIn 6 (record2 .numbers) 20) (100 ∷ []) ∷
+    -- an entry of 20 words has room at record 6 word 1 alone; one of 21 has none, and its append gives 24
+    Q 13 (map (placeOf 20) (startsIn 6 (record2 .numbers) 20)) (at 6 1 ∷ []) ∷
     Q 13 (startsIn 6 (record2 .numbers) 21) [] ∷
     Q 13 (map (λ words. appendOf (after2 6) (withData words) .refusal) (9 ∷ 10 ∷ [])) (0 ∷ 24 ∷ []) ∷
     -- in A itself the second extension has slots: from the next free word, record 6 word 12, an entry of 9 words would have room; the 11 of an append have none

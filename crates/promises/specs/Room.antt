@@ -140,7 +140,9 @@ abbrev pub MeansNext : List Handed → List ℕ → ℕ → Type 0
 MeansNext [] file refusal = refusal ≡ 0
 MeansNext (h ∷ hs) file refusal = RoomMeans file h (noAppend refusal) file
 
--- what a batch means that answers so and leaves this file: for the entries that it accepts, and for the next one
+-- what a batch means that answers so and leaves this file
 pub record BatchMeans (file : List ℕ) (b : Batch) (answer : Batched) (after : List ℕ) : Type 0 where
+  -- the entries that it accepts stand each at the best place
   pub accepted : IntegersIn b → BestInTurn file (take (answer .accepted) (entriesIn b))
+  -- and its refusal means what it does of the next one, on the file that it leaves
   pub ends : MeansNext (drop (answer .accepted) (entriesIn b)) after (answer .refusal)
