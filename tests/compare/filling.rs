@@ -4,7 +4,7 @@ use crate::additions::addition;
 use crate::cases::left_behind;
 use crate::files::{self, make, make_full, most_extensions, together, Shape};
 use crate::random::Random;
-use crate::reference::{self, Addition, Settings};
+use crate::reference::{Addition, Settings};
 use crate::script::{Call, Script, Through};
 use crate::sweeps::{laid, sweep};
 
@@ -100,11 +100,11 @@ pub fn about_16384(random: &mut Random, script: &mut Script) {
     for spare_records in [0, 1, next - 1, next, next + 1] {
         let made = make_full(&settings, extensions, spare_records);
         script.lend(&made.bytes, made.bytes.len());
+        assert_eq!(script.call(Call::Validate), 0, "the reference refuses a file whose extensions are full");
         for words in [0, 35, 36] {
             script.again();
             let entry = with_data(random, 3, words);
             ask(random, script, Call::Append(entry));
         }
     }
-    assert!(reference::validate(&script.file).is_ok(), "the reference refuses a file that is full");
 }
