@@ -45,9 +45,9 @@ use Rattle.promises.proofs.RoomPlaces.{start-first, own-place, by-place
 -- file and input are not ready, and it is none of 0, 23 and 24; or they are, and it is 23, 24 or 0
 data Verdict (file : List ℕ) (h : Handed) (n : ℕ) : Type 0 where
   unready : (Ready file h → ⊥) → (n ≡ 0 → ⊥) → (NoRoom n → ⊥) → Verdict file h n
-  unextended : Ready file h → n ≡ 23 → Unextendable file → NoPlace file h → Verdict file h n
-  outside : Ready file h → n ≡ 24 → (Unextendable file → ⊥) → NoPlace file h → Verdict file h n
-  placed : Ready file h → n ≡ 0 → (Unextendable file → ⊥) → (p : EntryPlace) → Admissible file h p → Verdict file h n
+  unextended : Ready file h → n ≡ 23 → Unextendable (numbersOf file) → NoPlace file h → Verdict file h n
+  outside : Ready file h → n ≡ 24 → (Unextendable (numbersOf file) → ⊥) → NoPlace file h → Verdict file h n
+  placed : Ready file h → n ≡ 0 → (Unextendable (numbersOf file) → ⊥) → (p : EntryPlace) → Admissible file h p → Verdict file h n
 
 -- 0 is neither of the two
 some-room : {n : ℕ} → n ≡ 0 → NoRoom n → ⊥
@@ -68,13 +68,13 @@ module _ {file : List ℕ} {h : Handed} {n : ℕ} where
   is-refused (outside r e u none) = (λ q. (r, none), λ x. inr e)
   is-refused (placed r e u p a) = (λ q. absurd (some-room e q), λ x. absurd (x .1 p a))
 
-  is-23 : Verdict file h n → (n ≡ 23) ↔ (Ready file h × Unextendable file)
+  is-23 : Verdict file h n → (n ≡ 23) ↔ (Ready file h × Unextendable (numbersOf file))
   is-23 (unready never some other) = (λ q. absurd (other (inl q)), λ x. absurd (never (x .0)))
   is-23 (unextended r e u none) = (λ q. (r, u), λ x. e)
   is-23 (outside r e u none) = (λ q. absurd (omega arith), λ x. absurd (u (x .1)))
   is-23 (placed r e u p a) = (λ q. absurd (omega arith), λ x. absurd (u (x .1)))
 
-  is-24 : Verdict file h n → (n ≡ 24) ↔ (Ready file h × NoPlace file h × (Unextendable file → ⊥))
+  is-24 : Verdict file h n → (n ≡ 24) ↔ (Ready file h × NoPlace file h × (Unextendable (numbersOf file) → ⊥))
   is-24 (unready never some other) = (λ q. absurd (other (inr q)), λ x. absurd (never (x .0)))
   is-24 (unextended r e u none) = (λ q. absurd (omega arith), λ x. absurd (x .2 u))
   is-24 (outside r e u none) = (λ q. (r, none, u), λ x. e)

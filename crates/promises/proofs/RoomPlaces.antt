@@ -20,7 +20,7 @@ use Rattle.placing.specs.Rules.{placementRefusal}
 use Rattle.placing.specs.Bounds.{Placed}
 use Rattle.placing.proofs.Placed.{placed}
 use Rattle.placing.proofs.Places.{newRecords, new-end, new-low, new-first, start-low, start-extended, start-free}
-use Rattle.promises.specs.Room.{EntryPlace, needsArea, belowMex, capacityNext, capacityAdmitted, mayExtend, fromFree, areaFirst, areaEnd, areaStands, entryStands, admissible}
+use Rattle.promises.specs.Room.{EntryPlace, needsArea, belowMex, capacityNext, capacityAdmitted, mayExtend, Unextendable, fromFree, areaFirst, areaEnd, areaStands, entryStands, admissible}
 
 module _ (bytes : ℕ) (d : DescriptorNumbers) (addresses : List RecordNumber) (a : Admitted bytes d addresses) (nword : ℕ) where
   -- a new area is needed exactly where the extensions in use are full
@@ -104,10 +104,6 @@ module _ (bytes : ℕ) (d : DescriptorNumbers) (addresses : List RecordNumber) (
         area-before = λ q. rw (own q) (omega (arith, start-extended d q, new-end d));
       })
 
-  -- an extension is needed, and none may be made
-  abbrev pub Unextended : Type 0
-  Unextended = (needsArea d ≡ true) × (mayExtend d ≡ false)
-
   -- there is no admissible place
   abbrev pub None : Type 0
   None = (p : EntryPlace) → admissible bytes d nword p ≡ true → ⊥
@@ -117,7 +113,7 @@ module _ (bytes : ℕ) (d : DescriptorNumbers) (addresses : List RecordNumber) (
   inside = leb (entryStart d + nword) (bytes / 4)
 
   -- rule 23 is broken exactly then
-  by-23 : Unextended → placementRefusal bytes d nword ≡ 23
+  by-23 : Unextendable d → placementRefusal bytes d nword ≡ 23
   unfolding placementRefusal
   by-23 u =
       let f = sym needs-full ∙ u .0 in
@@ -140,17 +136,17 @@ module _ (bytes : ℕ) (d : DescriptorNumbers) (addresses : List RecordNumber) (
       (λ q. rw q)
 
   -- an extension is needed and none may be made, or one may be made if it is needed
-  by-extension {ℓ} : {X : Type ℓ} → (Unextended → X) → ((needsArea d ≡ true → mayExtend d ≡ true) → X) → X
+  by-extension {ℓ} : {X : Type ℓ} → (Unextendable d → X) → ((needsArea d ≡ true → mayExtend d ≡ true) → X) → X
   by-extension f g = either (mayExtend d) (λ m. g (λ n. m)) (λ m. either (needsArea d) (λ n. f (n, m)) (λ n. g (λ o. absurd (true≢false (sym o ∙ n)))))
 
   -- the three cases of the refusal: 23, 24, and 0 with the place that an append takes
-  pub by-placement {ℓ} : {X : Type ℓ} → (placementRefusal bytes d nword ≡ 23 → Unextended → None → X) → (placementRefusal bytes d nword ≡ 24 → (Unextended → ⊥) → None → X)
-      → (placementRefusal bytes d nword ≡ 0 → (Unextended → ⊥) → admissible bytes d nword (record { start = entryStart d; area = newArea d }) ≡ true → X) → X
+  pub by-placement {ℓ} : {X : Type ℓ} → (placementRefusal bytes d nword ≡ 23 → Unextendable d → None → X) → (placementRefusal bytes d nword ≡ 24 → (Unextendable d → ⊥) → None → X)
+      → (placementRefusal bytes d nword ≡ 0 → (Unextendable d → ⊥) → admissible bytes d nword (record { start = entryStart d; area = newArea d }) ≡ true → X) → X
   by-placement f g h =
       by-extension
       (λ u. f (by-23 u) u (λ p e. true≢false (sym (fits p e .extended (sym needs-full ∙ u .0)) ∙ u .1)))
       (λ may.
-      let not-23 : Unextended → ⊥ = λ u. true≢false (sym (may (u .0)) ∙ u .1) in
+      let not-23 : Unextendable d → ⊥ = λ u. true≢false (sym (may (u .0)) ∙ u .1) in
       either inside
       (λ i. let e = by-24 may ∙ rw i in h e not-23 (own-place (placed d bytes nword e) (newArea d) (λ q. refl)))
       (λ i. g (by-24 may ∙ rw i) not-23 (λ p e. omega (arith, leb-false (entryStart d + nword) (bytes / 4) i, start-first p e, fits p e .within))))

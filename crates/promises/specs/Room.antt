@@ -51,6 +51,10 @@ capacityAdmitted d = leb (capacityNext d) 16384
 abbrev pub mayExtend : DescriptorNumbers → Bool
 mayExtend d = belowMex d && capacityAdmitted d
 
+-- an extension is needed, and none may be made
+abbrev pub Unextendable : DescriptorNumbers → Type 0
+Unextendable d = (needsArea d ≡ true) × (mayExtend d ≡ false)
+
 -- a position is at or after the next free word
 abbrev pub fromFree : DescriptorNumbers → ℕ → Bool
 fromFree d p = leb (freeOf d) p
@@ -86,10 +90,6 @@ Admissible file h p = admissible (length file) (numbersOf file) (nwordIn h) p �
 abbrev pub NoPlace : List ℕ → Handed → Type 0
 NoPlace file h = (p : EntryPlace) → Admissible file h p → ⊥
 
--- an extension is needed, and none may be made
-abbrev pub Unextendable : List ℕ → Type 0
-Unextendable file = (needsArea (numbersOf file) ≡ true) × (mayExtend (numbersOf file) ≡ false)
-
 -- the file is admitted, by 1 to 11 and 29, and what is handed in passes 21 and 22
 pub record Ready (file : List ℕ) (h : Handed) : Type 0 where
   pub admitted : fileRefusal file ≡ 0
@@ -122,9 +122,9 @@ pub record RoomMeans (file : List ℕ) (h : Handed) (answer : Appended) (after :
   -- it answers 23 or 24 exactly when they are ready and there is none
   pub refused : NoRoom (answer .refusal) ↔ (Ready file h × NoPlace file h)
   -- 23 where an extension is needed and none may be made
-  pub by-23 : (answer .refusal ≡ 23) ↔ (Ready file h × Unextendable file)
+  pub by-23 : (answer .refusal ≡ 23) ↔ (Ready file h × Unextendable (numbersOf file))
   -- else 24
-  pub by-24 : (answer .refusal ≡ 24) ↔ (Ready file h × NoPlace file h × (Unextendable file → ⊥))
+  pub by-24 : (answer .refusal ≡ 24) ↔ (Ready file h × NoPlace file h × (Unextendable (numbersOf file) → ⊥))
   -- where it is accepted, the entry stands at the best place
   pub best : Integers h → answer .refusal ≡ 0 → BestPlace file h after (answer .number)
 
