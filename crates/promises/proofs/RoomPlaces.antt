@@ -112,7 +112,7 @@ module _ (bytes : ℕ) (d : DescriptorNumbers) (addresses : List RecordNumber) (
   abbrev inside : Bool
   inside = leb (entryStart d + nword) (bytes / 4)
 
-  -- rule 23 is broken exactly then
+  -- an extension that is needed and may not be made breaks rule 23
   by-23 : Unextendable d → placementRefusal bytes d nword ≡ 23
   unfolding placementRefusal
   by-23 u =
