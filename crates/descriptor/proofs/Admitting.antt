@@ -21,7 +21,7 @@ use Rattle.descriptor.specs.Rules.{settingRefusal, fillingRefusal, noLef
 use Rattle.descriptor.specs.Bounds.{Admitted}
 use Rattle.descriptor.specs.Answers.{validationOf}
 use Rattle.descriptor.proofs.Fitting.{fit-reach}
-use Rattle.descriptor.proofs.Passed.{setting-rows, place-behind}
+use Rattle.descriptor.proofs.Passed.{limit-rows, setting-passed, place-behind}
 use Rattle.descriptor.proofs.Answered.{file-rest, answer-numbers}
 
 mex-reach : (reclen nex : ℕ) → nex ≤ 16 → 14 + 2 * nex ≤ reclen → (nex ≤ mexOf reclen) × (mexOf reclen < 2 ^ 31)
@@ -92,7 +92,7 @@ module _ (bytes : ℕ) (d : DescriptorNumbers) (addresses : List RecordNumber) (
 
 -- the settings that rules 2, 5, 6 and 7 ask for, from a file that passed them
 pub apt : (bytes : ℕ) (d : DescriptorNumbers) → settingRefusal bytes d ≡ 0 → Apt d
-apt bytes d e = let a = setting-rows bytes d e in search needs
+apt bytes d e = let a = limit-rows bytes d (setting-passed bytes d e .0) in search needs
 
 -- the order is one of the two
 pub order-known : (d : DescriptorNumbers) → Apt d → d .order .0 ≤ 1

@@ -1,18 +1,21 @@
 -- Laws of the index areas: one area more, what holds of fewer, and the bounds that the rules leave. Assumes nothing.
 use native.Mathlib.Decide.{le-ind}
 use Prim.Native.Nat.{ℕ, zero, suc, _+_, _*_, _-_, _^_, _≤_, _<_}
-use mathlib.Core.Path.{_≡_, refl, ap}
-use mathlib.Core.Bool.{Bool, true}
+use mathlib.Core.Path.{_≡_, refl, ap, _∙_}
+use mathlib.Core.Bool.{Bool, true, false, cond, _&&_}
 use mathlib.Core.List.{List}
 use native.Mathlib.Omega.{arith}
 use native.Mathlib.Nat.{mul-le-mul, mul-le-mul-left, mul-le-mul-right}
 use native.Mathlib.Numerals.{add-one}
-use borrow.Author.Tests.{leb-true}
+use borrow.Author.Tests.{leb-true, ne-eqb}
+use lib.Dec.{eqb}
 use mir.Syntax.{w64}
+use Rattle.outcome.proofs.Either.{either}
 use Rattle.words.specs.Word.{signedOf}
 use Rattle.words.specs.Range.{atLeast}
 use Rattle.words.proofs.Ranges.{atLeast-bounds}
-use Rattle.words.proofs.Runs.{Run, run-test}
+use Rattle.words.proofs.Table.{places-at}
+use Rattle.words.proofs.Runs.{Run, run-next, run-test}
 use Rattle.geometry.specs.declared.units.RecordNumber.{RecordNumber}
 use Rattle.geometry.specs.declared.growth.Growth.{Growth}
 use Rattle.geometry.specs.Units.{positionOf}
@@ -21,14 +24,19 @@ use Rattle.geometry.specs.Area.{areaRecords}
 use Rattle.geometry.proofs.Capacities.{capacity-limit, over-fewer}
 use Rattle.geometry.proofs.Slots.{records-least}
 use Rattle.descriptor.specs.declared.numbers.DescriptorNumbers.{DescriptorNumbers}
-use Rattle.descriptor.specs.FirstRecord.{aexOf, growthIn, freeOf}
-use Rattle.descriptor.specs.Areas.{areaAfter, areasStart, areasEnd}
+use Rattle.descriptor.specs.FirstRecord.{aexOf, aexAt, addressesOf, growthIn, freeOf}
+use Rattle.descriptor.specs.Areas.{areaAfter, areasStart, areasEnd, orderedAfter, areaAdded, areasHold}
 use Rattle.descriptor.specs.Bounds.{Settled, Admitted}
 
 -- an area has no more records than words
 pub records-small : (capacity lind reclen : ℕ) → 1 ≤ reclen → capacity ≤ 16384 → lind ≤ 256 → areaRecords capacity lind reclen ≤ 2 ^ 22
 records-small capacity lind reclen h c l =
     omega (arith, records-least (capacity * lind) reclen (capacity * lind) h (omega (arith, mul-le-mul-left (capacity * lind) h)), mul-le-mul c l)
+
+-- the table of a file's addresses has at each place what the file has
+pub aex-stored : (file : List ℕ) (nex i : ℕ) → i < nex → nex ≤ 16 → aexOf (addressesOf file nex) (i + 1) ≡ aexAt file i
+unfolding addressesOf
+aex-stored file nex i h l = let q : i + 1 - 1 ≡ i = omega arith in rw q (places-at 16 nex (aexAt file) (record { 0 = 0 }) i h l)
 
 module _ (d : DescriptorNumbers) (addresses : List RecordNumber) where
   -- the record after no area
@@ -75,6 +83,35 @@ module _ (d : DescriptorNumbers) (addresses : List RecordNumber) where
   after-low (suc k) n h e =
       let q : suc k ≡ k + 1 = omega arith in
       rw q (omega (arith, after-next k, area-low k n h e .0, after-low k n (omega arith) e))
+
+  -- the record after no area in order
+  pub ordered-none : orderedAfter d addresses 0 ≡ record { 0 = 2 }
+  unfolding orderedAfter areasStart
+  ordered-none = record-none
+
+  -- after areas in order it is the record after the last, and no record otherwise
+  pub ordered-is : (k : ℕ) (b : Bool) → areasStart d addresses k ≡ b → orderedAfter d addresses k ≡ cond b (areaAfter d addresses k) (record { 0 = 0 })
+  unfolding orderedAfter
+  ordered-is k b e = ap (λ (t : Bool). cond t (areaAfter d addresses k) (record { 0 = 0 })) e
+
+  -- areas in order end at some record
+  pub ordered-some : (k : ℕ) → areasStart d addresses k ≡ true → eqb (areaAfter d addresses k .0) 0 ≡ false
+  ordered-some k e = ne-eqb (areaAfter d addresses k .0) 0 (λ (z : areaAfter d addresses k .0 ≡ 0). omega (arith, after-low k k (omega arith) e))
+
+  -- one area more adds to it what the code adds
+  pub ordered-next : (k : ℕ) → areaAdded d (orderedAfter d addresses k) (aexOf addresses (k + 1)) (capacityOf (growthIn d) (k + 1)) ≡ orderedAfter d addresses (k + 1)
+  unfolding areaAdded
+  ordered-next k = either (areasStart d addresses k) (λ q.
+      let test = run-next starts-run k q in
+      rw (ordered-is k true q, ordered-some k q, ordered-is (k + 1) (areaStarts k) test, record-next k))
+      (λ q.
+      let failed = starts-run .next k ∙ ap (λ (b : Bool). b && areaStarts k) q in
+      rw (ordered-is k false q, ordered-is (k + 1) false failed))
+
+  -- rule 11 by it is rule 11
+  pub hold-is : areasHold d (orderedAfter d addresses (d .nex)) ≡ areasStart d addresses (d .nex) && areasEnd d addresses
+  unfolding areasHold areasEnd
+  hold-is = either (areasStart d addresses (d .nex)) (λ q. rw (ordered-is (d .nex) true q, ordered-some (d .nex) q, q)) (λ q. rw (ordered-is (d .nex) false q, q))
 
   -- an extension in use has an area of few records
   pub area-small : (k : ℕ) → Settled d → 1 ≤ k → k ≤ d .nex → areaRecords (capacityOf (growthIn d) k) (d .lind) (d .reclen) ≤ 2 ^ 22

@@ -1,8 +1,8 @@
 -- What the rules leave once they are passed. Assumes nothing.
 use Prim.Native.Nat.{ℕ, _+_, _*_, _-_, _/_, _%_, _^_, _≤_, _<_}
-use mathlib.Core.Path.{_≡_}
-use mathlib.Core.Bool.{true, not}
-use mathlib.Core.List.{List}
+use mathlib.Core.Path.{_≡_, ap, _∙_}
+use mathlib.Core.Bool.{true, false, not, cond}
+use mathlib.Core.List.{List, [], _∷_}
 use native.Mathlib.Omega.{arith}
 use native.Mathlib.Nat.{mul-le-mul-left, mul-le-mul-right, mod-eq-of-lt, lt-of-not-le}
 use native.Mathlib.Decide.{decLe}
@@ -11,6 +11,7 @@ use borrow.Author.Needs.{needs}
 use lib.Dec.{leb, eqb}
 use lib.ListN.{length}
 use mir.Syntax.{w32, w64}
+use Rattle.outcome.proofs.Either.{either}
 use Rattle.words.specs.Word.{signedOf}
 use Rattle.words.specs.Range.{within, atLeast}
 use Rattle.words.proofs.Ranges.{within-bounds, atLeast-bounds}
@@ -19,10 +20,11 @@ use Rattle.geometry.specs.declared.units.WordNumber.{WordNumber}
 use Rattle.geometry.specs.Units.{positionOf}
 use Rattle.geometry.specs.Growth.{overOf}
 use Rattle.descriptor.specs.declared.numbers.DescriptorNumbers.{DescriptorNumbers}
+use Rattle.descriptor.specs.Refusal.{row, refusalIn}
 use Rattle.descriptor.specs.FirstRecord.{mexOf, growthIn, freeOf}
-use Rattle.descriptor.specs.Rules.{settingRules, fillingRules, settingRefusal, fillingRefusal}
-use Rattle.descriptor.specs.Bounds.{Settled, Narrow, Lent, Free, Admitted}
-use Rattle.descriptor.proofs.Refusals.{all-hold}
+use Rattle.descriptor.specs.Rules.{limitRules, settingRules, fillingRules, limitRefusal, settingRefusal, fillingRefusal}
+use Rattle.descriptor.specs.Bounds.{Limited, Settled, Narrow, Lent, Free, Admitted}
+use Rattle.descriptor.proofs.Refusals.{all-hold, hold-split, refusal-none, refusal-append}
 
 -- mex is 16 at most
 pub mex-high : (reclen : ℕ) → mexOf reclen ≤ 16
@@ -38,8 +40,8 @@ one-record : (bytes r : ℕ) → bytes % r ≡ 0 → 64 ≤ bytes → r ≤ byte
 one-record bytes r e h =
     elim (decLe r bytes) [ yes l ↦ l | no l ↦ absurd (omega (arith, mod-eq-of-lt (lt-of-not-le l))) ]
 
--- rules 2 to 8, one by one
-pub record SettingsHold (bytes : ℕ) (d : DescriptorNumbers) : Type 0 where
+-- rules 2 to 8 but for the capacities, one by one
+pub record LimitsHold (bytes : ℕ) (d : DescriptorNumbers) : Type 0 where
   pub order : within 0 1 (signedOf w32 (d .order .0)) ≡ true
   pub reclen : within 16 4096 (signedOf w32 (d .reclen)) ≡ true
   pub lent : leb bytes (2 ^ 30) ≡ true
@@ -51,18 +53,17 @@ pub record SettingsHold (bytes : ℕ) (d : DescriptorNumbers) : Type 0 where
   pub lex1 : within 1 4096 (signedOf w32 (d .lex1)) ≡ true
   pub gex : within 10 20 (signedOf w32 (d .gex)) ≡ true
   pub nex : within 0 (mexOf (d .reclen)) (signedOf w32 (d .nex)) ≡ true
-  pub capacities : not (overOf (growthIn d) (d .nex)) ≡ true
 
 module _ (bytes : ℕ) (d : DescriptorNumbers) where
   -- they hold where there is no refusal
-  pub setting-rows : settingRefusal bytes d ≡ 0 → SettingsHold bytes d
-  unfolding settingRefusal
-  setting-rows e = let rows = all-hold (settingRules bytes d) (omega arith) e in search needs
+  pub limit-rows : limitRefusal bytes d ≡ 0 → LimitsHold bytes d
+  unfolding limitRefusal
+  limit-rows e = let rows = all-hold (limitRules bytes d) (omega arith) e in search needs
 
-  -- the settings that pass are within their limits
-  pub settled : settingRefusal bytes d ≡ 0 → Settled d
-  settled e =
-      let a = setting-rows e in
+  -- the settings that pass them are within their limits
+  pub limited : limitRefusal bytes d ≡ 0 → Limited d
+  limited e =
+      let a = limit-rows e in
       let reclen = within-bounds w32 16 4096 (d .reclen) (omega arith) (a .reclen) in
       let lind = within-bounds w32 3 256 (d .lind) (omega arith) (a .lind) in
       let lex1 = within-bounds w32 1 4096 (d .lex1) (omega arith) (a .lex1) in
@@ -70,14 +71,34 @@ module _ (bytes : ℕ) (d : DescriptorNumbers) where
       let nex = within-bounds w32 0 (mexOf (d .reclen)) (d .nex) (omega (arith, mex-high (d .reclen))) (a .nex) in
       let most = mex-high (d .reclen) in
       let room = mex-room (d .reclen) (d .nex) (reclen .0) (nex .1) in
-      let within = not-true (overOf (growthIn d) (d .nex)) (a .capacities) in
+      search needs
+
+  -- the settings are refused by their limits, and then by the capacities
+  pub setting-parts : settingRefusal bytes d ≡ cond (eqb (limitRefusal bytes d) 0) (cond (overOf (growthIn d) (d .nex)) 8 0) (limitRefusal bytes d)
+  unfolding limitRefusal settingRefusal
+  setting-parts =
+      refusal-append (limitRules bytes d) (row 8 (not (overOf (growthIn d) (d .nex))) ∷ []) (omega arith)
+      ∙ ap (λ (n : ℕ). cond (eqb (refusalIn (limitRules bytes d)) 0) n (refusalIn (limitRules bytes d))) (either (overOf (growthIn d) (d .nex)) (λ q. rw q) (λ q. rw q))
+
+  -- so settings with no refusal pass both
+  pub setting-passed : settingRefusal bytes d ≡ 0 → (limitRefusal bytes d ≡ 0) × (overOf (growthIn d) (d .nex) ≡ false)
+  unfolding limitRefusal settingRefusal
+  setting-passed e =
+      let rows = hold-split (limitRules bytes d) (row 8 (not (overOf (growthIn d) (d .nex))) ∷ []) (all-hold (settingRules bytes d) (omega arith) e) in
+      (refusal-none (limitRules bytes d) (rows .0), not-true (overOf (growthIn d) (d .nex)) (rows .1 .0))
+
+  -- and are within their limits, with their capacities
+  pub settled : settingRefusal bytes d ≡ 0 → Settled d
+  settled e =
+      let a = limited (setting-passed e .0) in
+      let within = setting-passed e .1 in
       search needs
 
   -- so each fits its field, if nextword does
   pub narrow : settingRefusal bytes d ≡ 0 → d .nextword .0 < 2 ^ 32 → Narrow d
   narrow e h =
       let s = settled e in
-      let a = setting-rows e in
+      let a = limit-rows (setting-passed e .0) in
       record {
         order = omega (arith, within-bounds w32 0 1 (d .order .0) (omega arith) (a .order) .1);
         reclen = omega (arith, s .reclen-high);
@@ -94,7 +115,7 @@ module _ (bytes : ℕ) (d : DescriptorNumbers) where
   -- and the bytes lent are whole records, one at least
   pub lent : settingRefusal bytes d ≡ 0 → 64 ≤ bytes → Lent bytes d
   lent e h =
-      let a = setting-rows e in
+      let a = limit-rows (setting-passed e .0) in
       let whole = eqb-true (bytes % (4 * d .reclen)) 0 (a .whole) in
       record { high = leb-true bytes (2 ^ 30) (a .lent); whole = whole; first = one-record bytes (4 * d .reclen) whole h }
 

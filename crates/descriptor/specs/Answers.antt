@@ -55,6 +55,10 @@ abbrev pub validatedCase : Validated → ValidatedCase
 validatedCase (Numbers d) = record { refusal = 0; numbers = d }
 validatedCase (Refused n) = record { refusal = n; numbers = noNumbers }
 
+-- what validating a file comes to: 0 and its numbers, or the refusal and zeros
+abbrev pub caseOf : List ℕ → ValidatedCase
+caseOf file = validatedCase (validationOf file .numbers)
+
 -- a refused extension: the number, and zeros
 abbrev pub noExtension : ℕ → Extension
 noExtension n = record { refusal = n; capacity = 0; first = record { 0 = 0 }; records = 0 }

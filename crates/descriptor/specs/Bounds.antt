@@ -13,7 +13,20 @@ use Rattle.descriptor.specs.FirstRecord.{growthIn, freeOf}
 use Rattle.descriptor.specs.Areas.{areasStart, areasEnd}
 use Rattle.descriptor.specs.Rules.{entriesFit}
 
--- rules 3 to 8: the settings and nex are within their limits
+-- rules 3 to 8 but for the capacities: the settings and nex are within their limits
+pub record Limited (d : DescriptorNumbers) : Type 0 where
+  pub reclen-low : 16 ≤ d .reclen
+  pub reclen-high : d .reclen ≤ 4096
+  pub lind-low : 3 ≤ d .lind
+  pub lind-high : d .lind ≤ 256
+  pub lex1-low : 1 ≤ d .lex1
+  pub lex1-high : d .lex1 ≤ 4096
+  pub gex-low : 10 ≤ d .gex
+  pub gex-high : d .gex ≤ 20
+  pub nex-high : d .nex ≤ 16
+  pub nex-room : 14 + 2 * d .nex ≤ d .reclen
+
+-- rules 3 to 8: so they are, and so is each capacity
 pub record Settled (d : DescriptorNumbers) : Type 0 where
   pub reclen-low : 16 ≤ d .reclen
   pub reclen-high : d .reclen ≤ 4096

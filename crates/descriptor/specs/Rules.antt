@@ -22,9 +22,9 @@ unfoldable pub entriesFit : Growth → ℕ → ℕ → Bool
 entriesFit g zero n = eqb n 0
 entriesFit g (suc k) n = leb n (totalOf g (suc k)) && ltb (totalOf g k) n
 
--- rules 2 to 8: the settings, over the count of bytes lent
-abbrev pub settingRules : ℕ → DescriptorNumbers → List Rule
-settingRules bytes d =
+-- rules 2 to 8 but for the capacities: each setting and nex within its limits, over the count of bytes lent
+abbrev pub limitRules : ℕ → DescriptorNumbers → List Rule
+limitRules bytes d =
     row 2 (within 0 1 (signedOf integer4 (d .order .0))) ∷
     row 3 (within 16 4096 (signedOf integer4 (d .reclen))) ∷
     row 4 (leb bytes (2 ^ 30)) ∷
@@ -36,20 +36,25 @@ settingRules bytes d =
     row 8 (within 1 4096 (signedOf integer4 (d .lex1))) ∷
     row 8 (within 10 20 (signedOf integer4 (d .gex))) ∷
     row 8 (within 0 (mexOf (d .reclen)) (signedOf integer4 (d .nex))) ∷
-    row 8 (not (overOf (growthIn d) (d .nex))) ∷
     []
 
--- rules 9 to 11: how far the file is filled
-abbrev pub fillingRules : ℕ → DescriptorNumbers → List RecordNumber → List Rule
-fillingRules bytes d addresses =
+-- rules 2 to 8: the settings
+abbrev pub settingRules : ℕ → DescriptorNumbers → List Rule
+settingRules bytes d = limitRules bytes d ++ row 8 (not (overOf (growthIn d) (d .nex))) ∷ []
+
+-- rules 9 and 10: the count of entries, and the next free record and word
+abbrev pub countRules : ℕ → DescriptorNumbers → List Rule
+countRules bytes d =
     row 9 (atLeast 1 (signedOf integer8 (d .xnext .0))) ∷
     row 9 (entriesFit (growthIn d) (d .nex) (entriesBefore (d .xnext))) ∷
     row 10 (atLeast 2 (signedOf integer8 (d .nextrec .0))) ∷
     row 10 (within 1 (d .reclen) (signedOf integer4 (d .nextword .0))) ∷
     row 10 (leb (freeOf d) (bytes / 4)) ∷
-    row 11 (areasStart d addresses (d .nex)) ∷
-    row 11 (areasEnd d addresses) ∷
     []
+
+-- rules 9 to 11: how far the file is filled
+abbrev pub fillingRules : ℕ → DescriptorNumbers → List RecordNumber → List Rule
+fillingRules bytes d addresses = countRules bytes d ++ row 11 (areasStart d addresses (d .nex)) ∷ row 11 (areasEnd d addresses) ∷ []
 
 -- rule 29: the words of the first record after the addresses in use, words 15 + 2 × nex to reclen, are zero
 unfoldable pub noLeftovers : List ℕ → DescriptorNumbers → Bool
@@ -58,11 +63,19 @@ noLeftovers file d =
     let end = offsetOf (d .reclen) in
     allZero (part file start (end - start))
 
--- the refusal of the settings, 0 where all their rules hold
+-- the refusal of the limits, 0 where all their rules hold
+unfoldable pub limitRefusal : ℕ → DescriptorNumbers → ℕ
+limitRefusal bytes d = refusalIn (limitRules bytes d)
+
+-- of the settings
 unfoldable pub settingRefusal : ℕ → DescriptorNumbers → ℕ
 settingRefusal bytes d = refusalIn (settingRules bytes d)
 
--- and of how far the file is filled: xnext, the next free word and the index areas
+-- of the counts: xnext and the next free word
+unfoldable pub countRefusal : ℕ → DescriptorNumbers → ℕ
+countRefusal bytes d = refusalIn (countRules bytes d)
+
+-- and of how far the file is filled: the counts and the index areas
 unfoldable pub fillingRefusal : ℕ → DescriptorNumbers → List RecordNumber → ℕ
 fillingRefusal bytes d addresses = refusalIn (fillingRules bytes d addresses)
 

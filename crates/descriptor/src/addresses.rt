@@ -12,7 +12,7 @@ ghost use Rattle.layout.specs.FileCode.{byteOrderOf};
 ghost use Rattle.descriptor.specs.FirstRecord.{addressesOf};
 
 // The addresses of the first `nex` extensions, in 16 places, the others zero.
-pub(crate) fn addresses_of(order: ByteOrder, file: &[u8], nex: u64) -> [RecordNumber; 16]
+pub fn addresses_of(order: ByteOrder, file: &[u8], nex: u64) -> [RecordNumber; 16]
     requires { ⌜ (order ≡ byteOrderOf (now file)) × (nex ≤ 16) × (4 * (14 + 2 * nex) ≤ length (now file)) ⌝ }
     ensures { λ r. ⌜ Answers (addressesOf (now (file .entry)) nex) r ⌝ }
 {

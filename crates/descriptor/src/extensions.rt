@@ -1,13 +1,10 @@
 // The extensions of a file.
-use super::inner::aex;
-use super::validating::Validated;
-use super::validating::refusal_of;
-use super::validating::validate;
+use super::areas::aex_in;
+use super::validating::admit;
 use geometry::ExtensionNumber;
-use geometry::Growth;
 use geometry::RecordNumber;
 use geometry::area_records;
-use geometry::capacity;
+use geometry::total_before;
 ghost use Rattle.outcome.specs.Outcome.{Answers};
 ghost use Rattle.descriptor.specs.Answers.{extensionOf, noExtension};
 
@@ -36,23 +33,24 @@ fn refused(refusal: u32) -> Extension
 pub fn extension_of(file: &[u8], number: ExtensionNumber) -> Extension
     ensures { λ r. ⌜ Answers (extensionOf (now (file .entry)) number) r ⌝ }
 {
-    let validation = validate(file);
-    let case = validation.numbers;
-    let Validated::Numbers(d) = case else {
-        return refused(refusal_of(case));
-    };
+    let mut totals = [0u64; 16];
+    let admitted = admit(file, &mut totals);
+    if admitted.refusal != 0 {
+        return refused(admitted.refusal);
+    }
+    let d = admitted.numbers;
     if number.0 < 1 {
         return refused(12);
     }
     if d.nex < number.0 {
         return refused(12);
     }
-    let addresses = validation.addresses;
-    let entries = capacity(Growth::new(d.lex1, d.gex), number);
+    let before = total_before(&totals, number);
+    let capacity = total_before(&totals, ExtensionNumber(number.0 + 1)) - before;
     Extension {
         refusal: 0,
-        capacity: entries,
-        first: aex(addresses, number),
-        records: area_records(entries, d.lind, d.reclen),
+        capacity,
+        first: aex_in(d.order, file, number),
+        records: area_records(capacity, d.lind, d.reclen),
     }
 }

@@ -10,7 +10,9 @@ pub mod inner;
 mod leftovers;
 mod numbers;
 mod rules;
+mod slots;
 mod validating;
+mod walking;
 
 pub use extensions::Extension;
 pub use extensions::extension_of;

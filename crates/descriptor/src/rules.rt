@@ -1,20 +1,20 @@
 // The rules of a first record, tested in the order of their table.
-use super::areas::areas_hold;
 use super::inner::mex;
 use super::numbers::DescriptorNumbers;
 use geometry::ExtensionNumber;
 use geometry::Growth;
-use geometry::RecordNumber;
 use geometry::byte_offset;
 use geometry::entries_before;
 use geometry::position_within;
-use geometry::walk_to;
+use geometry::total_before;
+ghost use mathlib.Core.Path.{_≡_};
 ghost use Prim.Native.Nat.{_≤_};
 ghost use Rattle.outcome.specs.Outcome.{Answers};
 ghost use Rattle.words.specs.Word.{integer4, signedOf};
 ghost use Rattle.words.specs.Range.{within};
-ghost use Rattle.geometry.specs.Growth.{Growing};
-ghost use Rattle.descriptor.specs.Rules.{entriesFit, settingRefusal, fillingRefusal};
+ghost use Rattle.geometry.specs.Totals.{totalsOf};
+ghost use Rattle.descriptor.specs.FirstRecord.{growthIn};
+ghost use Rattle.descriptor.specs.Rules.{entriesFit, limitRefusal, settingRefusal, countRefusal};
 ghost use Rattle.descriptor.specs.Bounds.{Settled, Lent};
 
 // Whether the record length is admitted.
@@ -39,9 +39,10 @@ fn lind_holds(lind: u64) -> bool
     )
 }
 
-// Rules 2 to 8, on the numbers and the count of bytes lent: the first that is broken, or 0.
-pub fn setting_refusal(bytes: u64, d: DescriptorNumbers) -> u32
-    ensures { λ r. ⌜ Answers (settingRefusal bytes d) r ⌝ }
+// Rules 2 to 8 but for the capacities, on the numbers and the count of bytes lent: the first that is
+// broken, or 0.
+pub(crate) fn limit_refusal(bytes: u64, d: DescriptorNumbers) -> u32
+    ensures { λ r. ⌜ Answers (limitRefusal bytes d) r ⌝ }
 {
     if !words::within4(d.order.0, 0, 1) {
         return 2;
@@ -76,41 +77,47 @@ pub fn setting_refusal(bytes: u64, d: DescriptorNumbers) -> u32
     if !words::within4(d.nex, 0, mex(d.reclen)) {
         return 8;
     }
+    0
+}
+
+// Rules 2 to 8: the first that is broken, or 0.
+pub fn setting_refusal(bytes: u64, d: DescriptorNumbers) -> u32
+    ensures { λ r. ⌜ Answers (settingRefusal bytes d) r ⌝ }
+{
+    let limit = limit_refusal(bytes, d);
+    if limit != 0 {
+        return limit;
+    }
     if geometry::over(Growth::new(d.lex1, d.gex), d.nex) {
         return 8;
     }
     0
 }
 
-// Whether n entries fit nex extensions.
-fn entries_fit(growth: Growth, nex: u64, n: u64) -> bool
-    requires { ⌜ (nex ≤ 16) × Growing growth nex ⌝ }
-    ensures { λ r. ⌜ Answers (entriesFit growth nex n) r ⌝ }
+// Whether n entries fit the extensions in use, by their totals.
+fn entries_fit(d: DescriptorNumbers, totals: &[u64], n: u64) -> bool
+    requires { ⌜ (d .nex ≤ 16) × (now totals ≡ totalsOf (growthIn d) (d .nex)) ⌝ }
+    ensures { λ r. ⌜ Answers (entriesFit (growthIn d) (d .nex) n) r ⌝ }
 {
-    if nex == 0 {
+    if d.nex == 0 {
         return n == 0;
     }
-    let walk = walk_to(growth, ExtensionNumber(nex));
-    if walk.before + walk.capacity < n {
+    if total_before(totals, ExtensionNumber(d.nex + 1)) < n {
         return false;
     }
-    walk.before < n
+    total_before(totals, ExtensionNumber(d.nex)) < n
 }
 
-// Rules 9 to 11, on settled numbers, the addresses and the count of bytes lent: the first that is
-// broken, or 0.
-pub(crate) fn filling_refusal(
-    bytes: u64,
-    d: DescriptorNumbers,
-    addresses: [RecordNumber; 16],
-) -> u32
-    requires { ⌜ Settled d × Lent bytes d ⌝ }
-    ensures { λ r. ⌜ Answers (fillingRefusal bytes d addresses) r ⌝ }
+// Rules 9 and 10, on settled numbers, the totals of the extensions in use and the count of bytes lent: the first that
+// is broken, or 0.
+pub(crate) fn count_refusal(bytes: u64, d: DescriptorNumbers, totals: &[u64]) -> u32
+    requires { ⌜ Settled d × Lent bytes d × (now totals ≡ totalsOf (growthIn d) (d .nex)) ⌝ }
+    ensures { λ r. ⌜ Answers (countRefusal bytes d) r ⌝ }
 {
     if !words::at_least8(d.xnext.0, 1) {
         return 9;
     }
-    if !entries_fit(Growth::new(d.lex1, d.gex), d.nex, entries_before(d.xnext)) {
+    if !entries_fit(d, totals, entries_before(d.xnext)) {
         return 9;
     }
     if !words::at_least8(d.nextrec.0, 2) {
@@ -121,9 +128,6 @@ pub(crate) fn filling_refusal(
     }
     if !position_within(d.reclen, d.nextrec, d.nextword, bytes / 4) {
         return 10;
-    }
-    if !areas_hold(d, addresses) {
-        return 11;
     }
     0
 }

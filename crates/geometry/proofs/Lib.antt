@@ -2,5 +2,6 @@
 pub mod Positions
 pub mod Capacities
 pub mod Parts
+pub mod TotalTables
 pub mod Slots
 pub mod WholeFactors

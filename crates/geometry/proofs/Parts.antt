@@ -9,8 +9,8 @@ use lib.Pow.{pow-add}
 use Rattle.geometry.specs.declared.growth.Growth.{Growth}
 use Rattle.geometry.specs.declared.walk.Walk.{Walk}
 use Rattle.geometry.specs.Growth.{capacityOf, totalOf}
-use Rattle.geometry.specs.Walk.{grownOf, partsOf, walkOf, Reaching}
-use Rattle.geometry.proofs.Capacities.{product-next, total-last, total-before}
+use Rattle.geometry.specs.Walk.{grownOf, partsOf, walkOf}
+use Rattle.geometry.proofs.Capacities.{product-next, total-last}
 
 module _ (g : Growth) where
   -- of fourteen tens, k are used up by extension k + 1, and j are left: its parts are whole
@@ -64,9 +64,3 @@ module _ (g : Growth) where
   -- and together with those before it, the total
   pub walk-total : {w : Walk} (k : ℕ) → 1 ≤ k → k ≤ 16 → w ≡ walkOf g k → w .before + w .capacity ≡ totalOf g k
   walk-total k l h e = omega (arith, ap (λ (x : Walk). x .before) e, walk-capacity k h e, total-last g k l)
-
-  -- one that has yet to reach an entry stands in an extension in use
-  pub reaching-used : {w : Walk} {nex e : ℕ} → Reaching g w nex e → w .extension .0 ≤ nex
-  reaching-used {w} {nex} p =
-      let before = ap (λ (x : Walk). x .before) (p .stands) in
-      omega (arith, p .counted, total-before g (w .extension .0 - 1) nex (omega (arith, p .behind, p .reached)))

@@ -1,6 +1,5 @@
 -- Laws of records and slots: an area is just large enough, and the slots of different entries are apart and within it. Assumes nothing.
-use mathlib.Core.Path.{_≡_, refl, ap}
-use mathlib.Core.Bool.{false}
+use mathlib.Core.Path.{_≡_, refl, sym, ap}
 use Prim.Native.Nat.{ℕ, zero, suc, _+_, _*_, _-_, _≤_, _<_}
 use native.Mathlib.Omega.{arith}
 use native.Mathlib.Nat.{div-add-mod', mod-lt, mul-le-mul-right, div-lt-iff-lt-mul, lt-of-not-le}
@@ -12,11 +11,9 @@ use Rattle.outcome.proofs.Either.{either}
 use Rattle.geometry.specs.declared.growth.Growth.{Growth}
 use Rattle.geometry.specs.declared.units.EntryNumber.{EntryNumber}
 use Rattle.geometry.specs.declared.area.Slot.{Slot}
-use Rattle.geometry.specs.declared.walk.Walk.{Walk}
-use Rattle.geometry.specs.Growth.{capacityOf, totalOf, overOf}
-use Rattle.geometry.specs.Walk.{walkOf}
+use Rattle.geometry.specs.Growth.{capacityOf, totalOf}
 use Rattle.geometry.specs.Area.{recordsFor, extensionFor, slotAt, slotOf}
-use Rattle.geometry.proofs.Capacities.{capacity-limit, total-le, total-last, total-none, total-before}
+use Rattle.geometry.proofs.Capacities.{total-le, total-last, total-none, total-before}
 
 -- ---- records
 
@@ -83,29 +80,18 @@ slot-stands g nex lind e h l =
       words = refl;
     }
 
--- a walk at the extension of entry e
-module _ (g : Growth) (nex lind : ℕ) (e : EntryNumber) {w : Walk} (at : w ≡ walkOf g (extensionFor g nex (e .0))) where
-  -- finds the slot of the entry there
-  pub walk-slot : slotAt (w .extension .0) (e .0 - w .before) lind ≡ slotOf g nex lind e
-  unfolding slotOf
-  walk-slot = ap (λ (x : Walk). slotAt (x .extension .0) (e .0 - x .before) lind) at
-
-  -- and those before it do not reach the entry, which is at most 16,384 further
-  pub walk-near : overOf g nex ≡ false → 1 ≤ e .0 → e .0 ≤ totalOf g nex → (w .before < e .0) × (e .0 ≤ w .before + 16384) × (1 ≤ w .extension .0)
-  walk-near p h l =
-      let k = extensionFor g nex (e .0) in
-      let r = extension-holds g nex (e .0) h l in
-      let before = ap (λ (x : Walk). x .before) at in
-      let own = capacity-limit g k nex (r .0 .counted) (r .1) p in
-      (omega (arith, r .0 .behind), omega (arith, r .0 .reached, total-last g k (r .0 .counted)), omega (arith, r .0 .counted, ap (λ (x : Walk). x .extension .0) at))
+-- it is the slot there of the extension that holds the entry
+pub slot-held : (g : Growth) (nex lind : ℕ) (e : EntryNumber) (k : ℕ) → e .0 ≤ totalOf g nex → Holds g (e .0) k → slotAt k (e .0 - totalOf g (k - 1)) lind ≡ slotOf g nex lind e
+unfolding slotOf
+slot-held g nex lind e k l p =
+    let r = extension-holds g nex (e .0) (omega (arith, p .behind)) l in
+    ap (λ (j : ℕ). slotAt j (e .0 - totalOf g (j - 1)) lind) (holder-only g (e .0) _ _ p (r .0))
 
 -- the slot is the same among more extensions
 pub slot-more : (g : Growth) (nex more lind : ℕ) (e : EntryNumber) → 1 ≤ e .0 → e .0 ≤ totalOf g nex → nex ≤ more → slotOf g more lind e ≡ slotOf g nex lind e
 unfolding slotOf
 slot-more g nex more lind e h l m =
-    let few = extension-holds g nex (e .0) h l in
-    let many = extension-holds g more (e .0) h (omega (arith, total-le g nex more m)) in
-    ap (λ (k : ℕ). slotAt k (e .0 - totalOf g (k - 1)) lind) (holder-only g (e .0) _ _ (many .0) (few .0))
+    sym (slot-held g more lind e (extensionFor g nex (e .0)) (omega (arith, total-le g nex more m)) (extension-holds g nex (e .0) h l .0))
 
 -- the entry behind all of nex extensions has the first slot of the next
 pub slot-begins : (g : Growth) (nex lind : ℕ) (e : EntryNumber) → e .0 ≡ totalOf g nex + 1 → slotOf g (nex + 1) lind e ≡ slotAt (nex + 1) 1 lind

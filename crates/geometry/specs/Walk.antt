@@ -1,5 +1,5 @@
 -- How the code comes from one capacity to the next: it counts a capacity in parts, of which an entry has 10^14.
-use Prim.Native.Nat.{ℕ, zero, suc, _*_, _-_, _/_, _^_, _≤_, _<_}
+use Prim.Native.Nat.{ℕ, zero, suc, _*_, _-_, _/_, _^_, _≤_}
 use mathlib.Core.Path.{_≡_}
 use Rattle.geometry.specs.declared.growth.Growth.{Growth}
 use Rattle.geometry.specs.declared.walk.Walk.{Walk}
@@ -25,12 +25,3 @@ pub record Walking (g : Growth) (w : Walk) : Type 0 where
   pub counted : 1 ≤ w .extension .0
   pub few : w .extension .0 ≤ 16
   pub growing : Growing g (w .extension .0)
-
--- what the code asks of a walk that goes on to the extension of entry e: those before the walk do not reach it, and the first nex do
-pub record Reaching (g : Growth) (w : Walk) (nex e : ℕ) : Type 0 where
-  pub stands : w ≡ walkOf g (w .extension .0)
-  pub counted : 1 ≤ w .extension .0
-  pub few : nex ≤ 16
-  pub growing : Growing g nex
-  pub behind : w .before < e
-  pub reached : e ≤ totalOf g nex

@@ -5,16 +5,16 @@
 // The functions of `units` are the only ones that turn one into another.
 mod area;
 mod growth;
+mod totals;
 mod units;
 mod walk;
 
 pub use area::Slot;
 pub use area::area_records;
 pub use area::records_for;
-pub use area::slot_in;
-pub use area::slot_of;
-pub use area::walk_to_entry;
 pub use growth::Growth;
+pub use totals::total_before;
+pub use totals::totals_of;
 pub use units::EntryAddress;
 pub use units::EntryNumber;
 pub use units::ExtensionNumber;
@@ -33,7 +33,6 @@ pub use units::table_index;
 pub use walk::Walk;
 pub use walk::capacity;
 pub use walk::over;
-pub use walk::total;
 pub use walk::walk_begun;
 pub use walk::walk_on;
 pub use walk::walk_to;

@@ -6,7 +6,7 @@ use super::growth::Growth;
 use super::units::ExtensionNumber;
 ghost use Prim.Native.Nat.{_+_, _-_, _^_, _≤_, _<_};
 ghost use Rattle.outcome.specs.Outcome.{Answers};
-ghost use Rattle.geometry.specs.Growth.{capacityOf, overOf, totalOf, Growing};
+ghost use Rattle.geometry.specs.Growth.{capacityOf, overOf, Growing};
 ghost use Rattle.geometry.specs.Walk.{grownOf, walkOf, Walking};
 
 // An extension that a walk has come to: the capacities of those before it together, and its own, in
@@ -90,16 +90,4 @@ pub fn over(growth: Growth, count: u64) -> bool
         walk = walk_on(growth, walk);
     }
     false
-}
-
-// The first `count` capacities together.
-pub fn total(growth: Growth, count: u64) -> u64
-    requires { ⌜ (count ≤ 16) × Growing growth count ⌝ }
-    ensures { λ r. ⌜ Answers (totalOf growth count) r ⌝ }
-{
-    if count == 0 {
-        return 0;
-    }
-    let walk = walk_to(growth, ExtensionNumber(count));
-    walk.before + walk.capacity
 }

@@ -1,24 +1,23 @@
--- `held::totals::totals_of` meets its contract. The loop's invariant: the walk has come to an extension, and the places of those before it hold their totals. Assumes nothing.
-use Prim.Native.Nat.{ℕ, _+_, _-_, _<_, _≤_}
+-- `geometry::totals::totals_of` meets its contract. The loop's invariant: the walk has come to an extension, and the places of those before it hold their totals. Assumes nothing.
+use Prim.Native.Nat.{ℕ, _+_, _-_, _≤_}
 use mathlib.Core.Path.{_≡_, sym, ap, _∙_}
-use mathlib.Core.List.{List}
 use native.Mathlib.Omega.{arith}
-use lib.ListN.{set}
-use Rattle.words.proofs.Table.{Filling, filling-none, filling-next, filling-all}
+use Rattle.words.proofs.Table.{Filling, filling-none, filling-all}
 use Rattle.geometry.specs.Growth.{totalOf}
 use Rattle.geometry.specs.Walk.{walkOf}
 use Rattle.geometry.proofs.Capacities.{growing-fewer, total-limit}
 use Rattle.geometry.proofs.Parts.{walk-stands, walk-total}
-use Rattle.held.specs.Record.{totalsOf}
-use Rattle.held.proofs.totals.totals_of.Statement.{statement}
-use Rattle.held.proofs.totals.totals_of.Tie as tie
+use Rattle.geometry.proofs.TotalTables.{totals-on}
+use Rattle.geometry.specs.Totals.{totalsOf}
+use Rattle.geometry.proofs.totals.totals_of.Statement.{statement}
+use Rattle.geometry.proofs.totals.totals_of.Tie as tie
 
 abbrev Inv-loop : tie.InvT-loop
-Inv-loop growth nex totals₀ walk₀ totals walk =
-    (walk ≡ walkOf growth (walk .extension .0)) × (1 ≤ walk .extension .0) × Filling 16 nex (λ i. totalOf growth (i + 1)) 0 totals (walk .extension .0 - 1)
+Inv-loop growth count totals₀ walk₀ totals walk =
+    (walk ≡ walkOf growth (walk .extension .0)) × (1 ≤ walk .extension .0) × Filling 16 count (λ i. totalOf growth (i + 1)) 0 totals (walk .extension .0 - 1)
 
 abbrev μ-loop : tie.MeasureT-loop
-μ-loop growth nex totals₀ walk₀ totals walk = nex + 1 - walk .extension .0
+μ-loop growth count totals₀ walk₀ totals walk = count + 1 - walk .extension .0
 
 -- where the function began, and the turn that a place is in
 abbrev start : tie.At-loop Inv-loop μ-loop → tie.Start Inv-loop μ-loop
@@ -34,11 +33,6 @@ at-loop c = c .before .before
 total : (c : tie.After-struct-known2 Inv-loop μ-loop) → let l = at-loop (turn c) in l .loop .walk .before + l .loop .walk .capacity ≡ totalOf (start l .args .growth) (l .loop .walk .extension .0)
 total c = let l = at-loop (turn c) in walk-total _ (l .loop .walk .extension .0) (l .loop .inv .1) (omega arith) (l .loop .inv .0)
 
--- a value at the place behind those that are filled fills one more
-filled-on : {nex : ℕ} {f : ℕ → ℕ} {table : List ℕ} {filled at value next : ℕ} → Filling 16 nex f 0 table filled → at ≡ filled → filled < nex → nex ≤ 16 → value ≡ f filled
-    → next ≡ filled + 1 → Filling 16 nex f 0 (set table at value) next
-filled-on l here some room e n = rw (here, n) (filling-next l some room e)
-
 loop-holds : tie.Need-loop-holds Inv-loop μ-loop
 loop-holds c =
     let at = walk-stands _ (c .walk-begun .ensures) in
@@ -47,7 +41,7 @@ loop-holds c =
 add-totals : tie.Need-add-totals Inv-loop μ-loop
 add-totals c =
     let l = at-loop (turn c) in
-    omega (arith, total c, total-limit (start l .args .growth) (l .loop .walk .extension .0) (start l .args .nex) (turn c .if1 .taken) (start l .pre .1 .within))
+    omega (arith, total c, total-limit (start l .args .growth) (l .loop .walk .extension .0) (start l .args .count) (turn c .if1 .taken) (start l .pre .1 .within))
 
 walk-on-requires : tie.Need-walk-on-requires Inv-loop μ-loop
 walk-on-requires c κs =
@@ -56,7 +50,7 @@ walk-on-requires c κs =
       stands = l .loop .inv .0;
       counted = l .loop .inv .1;
       few = omega arith;
-      growing = growing-fewer _ (l .loop .walk .extension .0) (start l .args .nex) (turn c .if1 .taken) (start l .pre .1);
+      growing = growing-fewer _ (l .loop .walk .extension .0) (start l .args .count) (turn c .if1 .taken) (start l .pre .1);
     }
 
 loop-again : tie.Need-loop-again Inv-loop μ-loop
@@ -68,7 +62,7 @@ loop-again c =
     let e : c .walk-on .result .extension .0 - 1 ≡ k - 1 + 1 = omega (arith, at .0, l .loop .inv .1) in
     let q : k - 1 + 1 ≡ k = omega (arith, l .loop .inv .1) in
     let value = total b ∙ ap (totalOf (start l .args .growth)) (sym q) in
-    (at .1, omega (arith, at .0), filled-on (l .loop .inv .2) (b .before .table-index .ensures) (omega arith) (omega arith) value e)
+    (at .1, omega (arith, at .0), totals-on (l .loop .inv .2) (b .before .table-index .ensures) (omega arith) (omega arith) value e)
 
 pub totals-of-spec : {M : Type 1} → statement M
 unfolding totalsOf

@@ -1,0 +1,13 @@
+-- `descriptor::validating::refused` meets its contract. Assumes nothing.
+use mathlib.Core.Path.{_≡_, ap}
+use borrow.Author.Needs.{needs}
+use Rattle.descriptor.specs.declared.numbers.DescriptorNumbers.{DescriptorNumbers}
+use Rattle.descriptor.specs.declared.validating.ValidatedCase.{ValidatedCase}
+use Rattle.descriptor.proofs.validating.refused.Statement.{statement}
+use Rattle.descriptor.proofs.validating.refused.Tie as tie
+
+returns : tie.Need-returns
+returns c = rw (c .no-numbers .ensures)
+
+pub refused-spec : {M : Type 1} → statement M
+refused-spec = tie.close (tie.spec (λ c κs. search needs) returns)
