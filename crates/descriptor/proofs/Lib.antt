@@ -4,5 +4,6 @@ pub mod Tests
 pub mod Passed
 pub mod Answered
 pub mod AreaOrder
+pub mod Walks
 pub mod Fitting
 pub mod Admitting

@@ -113,9 +113,9 @@ module _ (bytes : ℕ) (d : DescriptorNumbers) where
       }
 
   -- and the bytes lent are whole records, one at least
-  pub lent : settingRefusal bytes d ≡ 0 → 64 ≤ bytes → Lent bytes d
+  pub lent : limitRefusal bytes d ≡ 0 → 64 ≤ bytes → Lent bytes d
   lent e h =
-      let a = limit-rows (setting-passed e .0) in
+      let a = limit-rows e in
       let whole = eqb-true (bytes % (4 * d .reclen)) 0 (a .whole) in
       record { high = leb-true bytes (2 ^ 30) (a .lent); whole = whole; first = one-record bytes (4 * d .reclen) whole h }
 
@@ -146,7 +146,7 @@ unfolding fillingRefusal
 admitted bytes d addresses t h e f =
     let (xnext, (fit, (nextrec, (nextword, (within, (started, (ended, _))))))) = all-hold (fillingRules bytes d addresses) (omega arith) f in
     let s = settled bytes d e in
-    let l = lent bytes d e h in
+    let l = lent bytes d (setting-passed bytes d e .0) h in
     let counted = atLeast-bounds w64 1 (d .xnext .0) xnext .0 in
     let room = leb-true (freeOf d) (bytes / 4) within in
     let free : Free d = omega (arith, place-bounds d (d .nextrec) (d .nextword) s nextrec nextword (omega arith)) in
