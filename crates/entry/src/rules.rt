@@ -12,7 +12,7 @@ use pieces::Piece;
 use pieces::data_apart;
 use pieces::data_within;
 use pieces::sections_apart;
-use pieces::sections_within;
+use pieces::sections_spread;
 use pieces::word4_at;
 use pieces::word8_at;
 use words::ByteOrder;
@@ -100,13 +100,16 @@ pub(crate) fn content_refusal(
     if !data_within(nsec, nword, array) {
         return 17;
     }
-    if !sections_within(order, file, start, nsec, nword) {
+    let spread = sections_spread(order, file, start, nsec, nword);
+    if !spread.within {
         return 18;
     }
-    if !sections_apart(order, file, start, nsec, nword) {
-        return 19;
+    if !spread.ordered {
+        if !sections_apart(order, file, start, nsec, nword) {
+            return 19;
+        }
     }
-    if !data_apart(order, file, start, nsec, nword, array) {
+    if !data_apart(order, file, start, nsec, nword, array, spread.end) {
         return 19;
     }
     0

@@ -17,7 +17,7 @@ ghost use Rattle.outcome.specs.Outcome.{Answers};
 ghost use Rattle.layout.specs.FileCode.{byteOrderOf};
 ghost use Rattle.layout.specs.EntryWords.{sectionsMax};
 ghost use Rattle.pieces.specs.EntryDescriptor.{word4, word8, sectionOf};
-ghost use Rattle.pieces.specs.Contents.{pieceWithin, dataWithin, sectionsWithin, apart, apartFrom, sectionsApart, dataApart};
+ghost use Rattle.pieces.specs.Contents.{pieceWithin, dataWithin, sectionsWithin, apart, apartFrom};
 ghost use Rattle.pieces.specs.Bounds.{Described, Small};
 
 // A run of an entry's words.
@@ -54,7 +54,7 @@ pub fn section_at(order: ByteOrder, file: &[u8], start: u64, nsec: u64, i: u64) 
 }
 
 // Whether a piece lies within the words that content may have.
-fn piece_within(nsec: u64, nword: u64, piece: Piece) -> bool
+pub(crate) fn piece_within(nsec: u64, nword: u64, piece: Piece) -> bool
     requires { ⌜ (nsec ≤ sectionsMax) × (nword < 2 ^ 32) × (piece .words < 2 ^ 63) ⌝ }
     ensures { λ r. ⌜ Answers (pieceWithin nsec nword piece) r ⌝ }
 {
@@ -75,25 +75,6 @@ pub fn data_within(nsec: u64, nword: u64, piece: Piece) -> bool
     piece_within(nsec, nword, piece)
 }
 
-// Whether each section has a word at least and lies within the words that content may have.
-pub fn sections_within(order: ByteOrder, file: &[u8], start: u64, nsec: u64, nword: u64) -> bool
-    requires { ⌜ Described order (now file) start nsec × (nword < 2 ^ 32) ⌝ }
-    ensures { λ r. ⌜ Answers (sectionsWithin (now (file .entry)) start nsec nword nsec) r ⌝ }
-{
-    let mut passed = 0;
-    while passed < nsec {
-        let section = section_at(order, file, start, nsec, passed);
-        if !words::at_least8(section.words, 1) {
-            return false;
-        }
-        if !piece_within(nsec, nword, section) {
-            return false;
-        }
-        passed += 1;
-    }
-    true
-}
-
 // Whether two pieces share no word.
 fn pieces_apart(first: Piece, second: Piece) -> bool
     requires { ⌜ Small first × Small second ⌝ }
@@ -106,7 +87,7 @@ fn pieces_apart(first: Piece, second: Piece) -> bool
 }
 
 // Whether a piece shares no word with one of the first `count` sections.
-fn apart_from(
+pub(crate) fn apart_from(
     order: ByteOrder,
     file: &[u8],
     start: u64,
@@ -127,38 +108,4 @@ fn apart_from(
         passed += 1;
     }
     true
-}
-
-// Whether no two sections share a word.
-pub fn sections_apart(order: ByteOrder, file: &[u8], start: u64, nsec: u64, nword: u64) -> bool
-    requires { ⌜ Described order (now file) start nsec × (nword < 2 ^ 32) × (sectionsWithin (now file) start nsec nword nsec ≡ true) ⌝ }
-    ensures { λ r. ⌜ Answers (sectionsApart (now (file .entry)) start nsec nsec) r ⌝ }
-{
-    let mut passed = 0;
-    while passed < nsec {
-        let section = section_at(order, file, start, nsec, passed);
-        if !apart_from(order, file, start, nsec, nword, section, passed) {
-            return false;
-        }
-        passed += 1;
-    }
-    true
-}
-
-// Whether the data, where there is any, shares no word with a section.
-pub fn data_apart(
-    order: ByteOrder,
-    file: &[u8],
-    start: u64,
-    nsec: u64,
-    nword: u64,
-    piece: Piece,
-) -> bool
-    requires { ⌜ Described order (now file) start nsec × (nword < 2 ^ 32) × (sectionsWithin (now file) start nsec nword nsec ≡ true) × (dataWithin nsec nword piece ≡ true) ⌝ }
-    ensures { λ r. ⌜ Answers (dataApart (now (file .entry)) start nsec piece) r ⌝ }
-{
-    if piece.words == 0 {
-        return true;
-    }
-    apart_from(order, file, start, nsec, nword, piece, nsec)
 }

@@ -4,16 +4,18 @@
 // test where its pieces stand. They are for entries whose words lie within the file, read in the order that
 // its code says, which they require.
 mod contents;
+mod spread;
 mod tables;
 
 pub use contents::Piece;
-pub use contents::data_apart;
 pub use contents::data_within;
 pub use contents::section_at;
-pub use contents::sections_apart;
-pub use contents::sections_within;
 pub use contents::word4_at;
 pub use contents::word8_at;
+pub use spread::Spread;
+pub use spread::data_apart;
+pub use spread::sections_apart;
+pub use spread::sections_spread;
 pub use tables::Sections;
 pub use tables::no_sections;
 pub use tables::section_named;
