@@ -16,5 +16,5 @@ pub(crate) fn no_leftovers(file: &[u8], d: DescriptorNumbers) -> bool
 {
     let start = first_record_offset(after_aex(d.nex));
     let end = byte_offset(d.reclen);
-    image::all_zero(&file[start..end])
+    words::all_zero(file, start, end)
 }

@@ -1,14 +1,11 @@
--- Laws of `allZero`: a run of zeros, two runs, bytes within others; and a turn of a loop that looks. Assumes nothing.
-use mathlib.Core.Path.{_≡_, refl, sym, ap, ap₂, subst, _∙_}
-use mathlib.Core.Bool.{true, _&&_, and-eq-true-iff, and-assoc, and-true}
-use Prim.Native.Nat.{ℕ, zero, suc, _+_, _-_, _≤_, _<_, max}
+-- Laws of `allZero`: a run of zeros, two runs, bytes within others; and the test for 0 of a number made of two. Assumes nothing.
+use mathlib.Core.Path.{_≡_, refl, sym, ap, subst, _∙_}
+use mathlib.Core.Bool.{true, _&&_, and-eq-true-iff, and-assoc}
+use Prim.Native.Nat.{ℕ, zero, suc, _+_, _-_, _≤_}
 use native.Mathlib.Omega.{arith}
-use native.Mathlib.Numerals.{add-one}
 use borrow.Author.Tests.{eqb-true, eqb-false, eq-eqb, ne-eqb}
 use mathlib.Core.List.{List, [], _∷_, _++_}
 use lib.Dec.{eqb}
-use lib.ListN.{length, getD, take}
-use lib.Seq.{take-suc}
 use Rattle.outcome.proofs.Either.{either}
 use Rattle.image.specs.Image.{part, zeros, allZero}
 use Rattle.image.proofs.Part.{part-add}
@@ -49,13 +46,3 @@ both-zero a b c f g =
     (λ q. rw (p, q) (eq-eqb c 0 (f (eqb-true a 0 p) (eqb-true b 0 q))))
     (λ q. rw (p, q) (ne-eqb c 0 (λ e. eqb-false b 0 q (g e .1)))))
     (λ p. rw p (ne-eqb c 0 (λ e. eqb-false a 0 p (g e .0))))
-
--- a turn of a loop that keeps the greatest byte
-pub greatest-next : (bytes : List ℕ) (j greatest : ℕ) → j < length bytes → eqb greatest 0 ≡ allZero (take j bytes)
-    → eqb (max greatest (getD bytes j 0)) 0 ≡ allZero (take (j + 1) bytes)
-unfolding allZero
-greatest-next bytes j greatest h e =
-    let b = getD bytes j 0 in
-    both-zero greatest b (max greatest b) (λ p q. omega arith) (λ z. (omega arith, omega arith))
-    ∙ ap₂ _&&_ e (sym (and-true (eqb b 0)))
-    ∙ sym (rw (add-one j, take-suc bytes j 0 h) (zero-append (take j bytes) (b ∷ [])))

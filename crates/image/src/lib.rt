@@ -1,14 +1,13 @@
-// Bytes of a file image: copying a run of bytes to an offset, filling a run with zeros, and whether
-// bytes are all zero.
+// Bytes of a file image: copying a run of bytes to an offset, and filling a run with zeros.
 //
 // An image is a list of bytes, and offsets count bytes from 0. A function that writes says what the
 // whole slice holds at exit, so a caller learns of every byte whether it changed. Every write of the
 // library to a file goes through `put`.
 ghost use mathlib.Core.Path.{_≡_};
-ghost use Prim.Native.Nat.{_+_, _%_, _^_, _≤_, _<_, max};
+ghost use Prim.Native.Nat.{_+_, _%_, _^_, _≤_, _<_};
 ghost use lib.ListN.{length};
-ghost use Rattle.outcome.specs.Outcome.{Leaves, Answers};
-ghost use Rattle.image.specs.Image.{splice, zeros, allZero};
+ghost use Rattle.outcome.specs.Outcome.{Leaves};
+ghost use Rattle.image.specs.Image.{splice, zeros};
 
 // Copies all of `bytes` over the image from offset `at` on.
 pub fn put(image: &mut [u8], at: usize, bytes: &[u8])
@@ -41,28 +40,4 @@ pub fn zero(image: &mut [u8], at: usize, count: usize)
         put(image, at + filled, &word);
         filled += 4;
     }
-}
-
-// The greater of two bytes.
-fn greater(a: u8, b: u8) -> u8
-    ensures { λ r. ⌜ Answers (max a b) r ⌝ }
-{
-    if a < b {
-        return b;
-    }
-    a
-}
-
-// Whether every byte is zero. The loop keeps the greatest byte and never leaves early, so that the
-// compiler takes many bytes a turn.
-pub fn all_zero(bytes: &[u8]) -> bool
-    ensures { λ r. ⌜ Answers (allZero (now (bytes .entry))) r ⌝ }
-{
-    let mut greatest = 0;
-    let mut passed = 0;
-    while passed < bytes.len() {
-        greatest = greater(greatest, bytes[passed]);
-        passed += 1;
-    }
-    greatest == 0
 }

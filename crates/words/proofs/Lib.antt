@@ -6,3 +6,4 @@ pub mod Access
 pub mod Codes
 pub mod Table
 pub mod Runs
+pub mod Zeros

@@ -148,7 +148,8 @@ number-big o bs e = rw e
 
 -- ---- the number 0
 
-little-zero : (bs : List ℕ) → eqb (littleNumber bs) 0 ≡ allZero bs
+-- bytes with the least significant first stand for 0 where they are all zero, and nowhere else
+pub little-zero : (bs : List ℕ) → eqb (littleNumber bs) 0 ≡ allZero bs
 unfolding littleNumber allZero
 little-zero [] = refl
 little-zero (b ∷ bs) =
@@ -167,7 +168,7 @@ zero-arranged : (o : ByteOrder) (bs : List ℕ) → allZero (arranged o bs) ≡ 
 unfolding arranged allZero
 zero-arranged o bs = either (eqb (o .0) 0) (λ e. rw e) (λ e. rw e (zero-onto bs [] ∙ and-true (allZero bs)))
 
--- bytes stand for 0 where they are all zero, and nowhere else
+-- and so do bytes in an order
 pub number-zero : (o : ByteOrder) (bs : List ℕ) → eqb (number o bs) 0 ≡ allZero bs
 unfolding number
 number-zero o bs = little-zero (arranged o bs) ∙ zero-arranged o bs

@@ -1,5 +1,5 @@
 // Words of a file image: the memo's Integer*4 and Integer*8, read and written as bits and as signed
-// values, in either order of their bytes.
+// values, in either order of their bytes, and whether words are zero.
 //
 // Offsets count bytes from 0. A reader says which number the bytes at an offset stand for, a writer
 // what the whole image holds at exit, a test what the signed value is. A caller shows that the word lies within the image.
@@ -9,6 +9,7 @@ mod range;
 mod read;
 mod sign;
 mod write;
+mod zero;
 
 pub use byte_order::ByteOrder;
 pub use code::code_at;
@@ -27,3 +28,4 @@ pub use write::put_i32;
 pub use write::put_i64;
 pub use write::put_u32;
 pub use write::put_u64;
+pub use zero::all_zero;

@@ -19,7 +19,7 @@ fn word(a: u8, b: u8, c: u8, d: u8) -> u32
 }
 
 // The number that the four bytes at offset `at` stand for, the least significant first.
-fn little4(image: &[u8], at: usize) -> u32
+pub(crate) fn little4(image: &[u8], at: usize) -> u32
     requires { ⌜ at + 4 ≤ length (now image) ⌝ }
     ensures { λ r. ⌜ Answers (littleNumber (part (now (image .entry)) at 4)) r ⌝ }
 {

@@ -16,9 +16,9 @@ start : (c : tie.After-first-record-offset) → c .first-record-offset .result �
 start c = rw (c .before .after-aex .ensures) at (c .first-record-offset .ensures)
 
 returns : tie.Need-returns
-unfolding noLeftovers part
+unfolding noLeftovers
 returns c =
-    let ended = c .before .before in
+    let ended = c .before in
     let started = ended .before in
     let file = started .before .before .before .args .file .now in
     c .all-zero .ensures ∙ (λ i. allZero (part file (start started i) (ended .byte-offset .ensures i - start started i)))
@@ -30,8 +30,5 @@ no-leftovers-spec =
     (λ c κs. search needs)
     (λ c κs. omega (arith, ap (λ (w : WordNumber). w .0) (c .after-aex .ensures)))
     (λ c κs. search needs)
-    (λ c. omega (arith, start (c .before), c .byte-offset .ensures))
-    (λ c. omega (arith, start (c .before), c .byte-offset .ensures))
-    (λ c. omega (arith, c .byte-offset .ensures))
-    (λ c κs. search needs)
+    (λ c κs. omega (arith, start (c .before), c .byte-offset .ensures))
     returns)
