@@ -1,24 +1,27 @@
 -- Laws of what is handed to an append: its tests one element after the other, what the rules leave once they are passed, and the whole
 -- table by its parts. Assumes nothing.
-use mathlib.Core.Path.{_≡_, refl, sym, ap, _∙_}
-use mathlib.Core.Bool.{Bool, true, false, not, cond}
+use mathlib.Core.Path.{_≡_, refl, sym, ap, subst, _∙_}
+use mathlib.Core.Bool.{Bool, true, false, not, cond, false≢true}
 use mathlib.Core.List.{List}
-use Prim.Native.Nat.{ℕ, _*_, _-_, _%_}
+use Prim.Native.Nat.{ℕ, _+_, _*_, _-_, _%_, _<_}
 use native.Mathlib.Omega.{arith}
+use native.Mathlib.Nat.{lt-of-not-le}
+use native.Mathlib.Decide.{decLe}
 use native.Mathlib.Numerals.{add-one}
-use borrow.Author.Tests.{leb-true, ltb-true, ltb-false, eqb-true, le-leb, lt-leb}
+use borrow.Author.Tests.{leb-true, ltb-true, ltb-false, eqb-true, le-leb, lt-leb, le-ltb}
 use lib.Dec.{leb, ltb, eqb}
 use lib.IntN.{ℤ, pos, negsuc}
 use lib.ListN.{length, getD}
 use lib.Signed.{ltZ}
 use Rattle.words.specs.Range.{atLeast}
-use Rattle.words.proofs.Runs.{Run}
+use Rattle.words.proofs.Runs.{Run, run-all}
 use Rattle.geometry.specs.declared.units.RecordNumber.{RecordNumber}
 use Rattle.descriptor.specs.declared.numbers.DescriptorNumbers.{DescriptorNumbers}
 use Rattle.descriptor.specs.Refusal.{Rule, AllHold}
 use Rattle.descriptor.specs.Bounds.{Admitted}
 use Rattle.descriptor.proofs.Refusals.{all-hold, refusal-none, hold-split, refusal-append}
 use Rattle.pieces.specs.Tables.{sameInteger}
+use Rattle.pieces.proofs.SectionTables.{same-other}
 use Rattle.storing.specs.Handed.{Handed, absent, distinct, sumOf, nwordIn}
 use Rattle.writer.specs.Rules.{handedRules, appendRules, handedRefusal, appendRefusal}
 use Rattle.placing.specs.Rules.{placementRules, placementRefusal}
@@ -48,6 +51,47 @@ absent-run ids z = record { next = λ k. rw add-one }
 pub distinct-run : (ids : List ℤ) → Run (distinct ids) (λ k. absent ids (getD ids k (pos 0)) k)
 unfolding distinct
 distinct-run ids = record { next = λ k. rw add-one }
+
+-- what is not above a value is not above a higher one
+not-above : (a b c : ℤ) → ltZ a b ≡ true → ltZ a c ≡ false → ltZ b c ≡ false
+not-above (pos a) (pos b) (pos c) h k = le-ltb b c (omega (arith, ltb-true a b h, ltb-false a c k))
+not-above (pos a) (pos b) (negsuc c) h k = refl
+not-above (pos a) (negsuc b) c h k = cc
+not-above (negsuc a) (pos b) (pos c) h k = cc
+not-above (negsuc a) (pos b) (negsuc c) h k = refl
+not-above (negsuc a) (negsuc b) (pos c) h k = cc
+not-above (negsuc a) (negsuc b) (negsuc c) h k = le-ltb c b (omega (arith, ltb-true b a h, ltb-false c a k))
+
+-- no value is above itself
+not-self : (a : ℤ) → ltZ a a ≡ false
+not-self (pos a) = le-ltb a a (omega arith)
+not-self (negsuc a) = le-ltb a a (omega arith)
+
+-- none of the first k identifiers is above a value
+pub record NoneAbove (ids : List ℤ) (k : ℕ) (top : ℤ) : Type 0 where
+  pub below : (i : ℕ) → i < k → ltZ top (getD ids i (pos 0)) ≡ false
+
+-- one more that is not above the value either
+pub none-next : {ids : List ℤ} {k : ℕ} {top : ℤ} → NoneAbove ids k top → ltZ top (getD ids k (pos 0)) ≡ false → NoneAbove ids (k + 1) top
+none-next {ids} {k} {top} none low = record { below = below }
+  where
+    below : (i : ℕ) → i < k + 1 → ltZ top (getD ids i (pos 0)) ≡ false
+    below i h =
+        elim (decLe k i) [
+          | yes g ↦ (let e : k ≡ i = omega arith in subst (λ (j : ℕ). ltZ top (getD ids j (pos 0)) ≡ false) e low)
+          | no g ↦ none .below i (lt-of-not-le g)
+        ]
+
+module _ {ids : List ℤ} {k : ℕ} {top : ℤ} (none : NoneAbove ids k top) where
+  -- an identifier above that value is absent from them
+  pub above-absent : (z : ℤ) → ltZ top z ≡ true → absent ids z k ≡ true
+  unfolding absent
+  above-absent z above =
+      run-all (absent-run ids z) refl k (λ i h. ap not (same-other _ _ (λ q. false≢true (sym (none .below i h) ∙ ap (ltZ top) q ∙ above))))
+
+  -- and with one more that is above it, none is above that one
+  pub none-higher : ltZ top (getD ids k (pos 0)) ≡ true → NoneAbove ids (k + 1) (getD ids k (pos 0))
+  none-higher above = none-next (record { below = λ i h. not-above top (getD ids k (pos 0)) (getD ids i (pos 0)) above (none .below i h) }) (not-self (getD ids k (pos 0)))
 
 module _ (d : DescriptorNumbers) where
   module _ (h : Handed) where

@@ -28,14 +28,18 @@ fn is_absent(ids: &[i32], identifier: i32, count: usize) -> bool
     true
 }
 
-// Whether no two identifiers are equal.
+// Whether no two identifiers are equal. One above the highest of those before it is new; only another is compared with
+// each of them.
 fn are_distinct(ids: &[i32]) -> bool
     ensures { λ r. ⌜ Answers (distinct (now (ids .entry)) (length (now (ids .entry)))) r ⌝ }
 {
+    let mut highest = -2147483648;
     let mut passed = 0;
     while passed < ids.len() {
         let identifier = ids[passed];
-        if !is_absent(ids, identifier, passed) {
+        if highest < identifier {
+            highest = identifier;
+        } else if !is_absent(ids, identifier, passed) {
             return false;
         }
         passed += 1;
