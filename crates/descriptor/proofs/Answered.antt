@@ -25,7 +25,7 @@ use Rattle.descriptor.specs.Areas.{areasStart, areasEnd}
 use Rattle.descriptor.specs.Rules.{settingRules, countRules, fillingRules, noLeftovers, fileRules, settingRefusal, countRefusal, fillingRefusal, fileRefusal}
 use Rattle.descriptor.specs.Walking.{totalsIn}
 use Rattle.descriptor.specs.Answers.{validationOf, noValidation, validatedCase, caseOf, extensionIn, extensionOf}
-use Rattle.descriptor.specs.Bounds.{Admitted, AdmittedIn}
+use Rattle.descriptor.specs.Bounds.{Admitted, AdmittedIn, TotalsOf}
 use Rattle.descriptor.proofs.Refusals.{refusal-append, refusal-none, all-hold, hold-split}
 use Rattle.descriptor.proofs.Passed.{admitted}
 
@@ -163,7 +163,7 @@ module _ (file : List ℕ) where
     pub numbers : c .numbers ≡ d
     pub validation : validationOf file ≡ record { refusal = 0; numbers = Numbers (c .numbers); addresses = addressesOf file (c .numbers .nex) }
     pub admitted : AdmittedIn file (c .numbers) (addressesOf file (c .numbers .nex))
-    pub table : totals ≡ totalsOf (growthIn (c .numbers)) (c .numbers .nex)
+    pub table : TotalsOf (c .numbers) totals
 
   module _ (c : ValidatedCase) (e : c ≡ caseOf file) where
     -- what a case with no refusal shows

@@ -7,6 +7,7 @@ use lib.ListN.{length}
 use Rattle.geometry.specs.declared.units.RecordNumber.{RecordNumber}
 use Rattle.geometry.specs.Units.{entriesBefore}
 use Rattle.geometry.specs.Growth.{capacityOf, overOf}
+use Rattle.geometry.specs.Totals.{totalsOf}
 use Rattle.layout.specs.FileCode.{byteOrderOf}
 use Rattle.descriptor.specs.declared.numbers.DescriptorNumbers.{DescriptorNumbers}
 use Rattle.descriptor.specs.FirstRecord.{growthIn, freeOf}
@@ -85,6 +86,10 @@ pub record Admitted (bytes : ℕ) (d : DescriptorNumbers) (addresses : List Reco
   pub started : areasStart d addresses (d .nex) ≡ true
   pub ended : areasEnd d addresses ≡ true
   pub table : length addresses ≡ 16
+
+-- a table has the totals of the extensions in use
+abbrev pub TotalsOf : DescriptorNumbers → List ℕ → Type 0
+TotalsOf d totals = totals ≡ totalsOf (growthIn d) (d .nex)
 
 -- and of a file that holds them: its code says their order
 pub record AdmittedIn (file : List ℕ) (d : DescriptorNumbers) (addresses : List RecordNumber) : Type 0 where

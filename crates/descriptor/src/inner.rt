@@ -1,9 +1,9 @@
 // What the crates above ask of validated numbers and addresses.
 pub use super::addresses::addresses_of;
 pub use super::areas::aex_in;
+use super::numbers::DescriptorNumbers;
 pub use super::slots::slot_in_use;
 pub use super::validating::admit;
-use super::numbers::DescriptorNumbers;
 use geometry::ExtensionNumber;
 use geometry::Growth;
 use geometry::RecordNumber;

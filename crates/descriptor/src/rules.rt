@@ -7,15 +7,13 @@ use geometry::byte_offset;
 use geometry::entries_before;
 use geometry::position_within;
 use geometry::total_before;
-ghost use mathlib.Core.Path.{_≡_};
 ghost use Prim.Native.Nat.{_≤_};
 ghost use Rattle.outcome.specs.Outcome.{Answers};
 ghost use Rattle.words.specs.Word.{integer4, signedOf};
 ghost use Rattle.words.specs.Range.{within};
-ghost use Rattle.geometry.specs.Totals.{totalsOf};
 ghost use Rattle.descriptor.specs.FirstRecord.{growthIn};
 ghost use Rattle.descriptor.specs.Rules.{entriesFit, limitRefusal, settingRefusal, countRefusal};
-ghost use Rattle.descriptor.specs.Bounds.{Settled, Lent};
+ghost use Rattle.descriptor.specs.Bounds.{Settled, Lent, TotalsOf};
 
 // Whether the record length is admitted.
 fn reclen_holds(reclen: u64) -> bool
@@ -96,7 +94,7 @@ pub fn setting_refusal(bytes: u64, d: DescriptorNumbers) -> u32
 
 // Whether n entries fit the extensions in use, by their totals.
 fn entries_fit(d: DescriptorNumbers, totals: &[u64], n: u64) -> bool
-    requires { ⌜ (d .nex ≤ 16) × (now totals ≡ totalsOf (growthIn d) (d .nex)) ⌝ }
+    requires { ⌜ (d .nex ≤ 16) × TotalsOf d (now totals) ⌝ }
     ensures { λ r. ⌜ Answers (entriesFit (growthIn d) (d .nex) n) r ⌝ }
 {
     if d.nex == 0 {
@@ -111,7 +109,7 @@ fn entries_fit(d: DescriptorNumbers, totals: &[u64], n: u64) -> bool
 // Rules 9 and 10, on settled numbers, the totals of the extensions in use and the count of bytes lent: the first that
 // is broken, or 0.
 pub(crate) fn count_refusal(bytes: u64, d: DescriptorNumbers, totals: &[u64]) -> u32
-    requires { ⌜ Settled d × Lent bytes d × (now totals ≡ totalsOf (growthIn d) (d .nex)) ⌝ }
+    requires { ⌜ Settled d × Lent bytes d × TotalsOf d (now totals) ⌝ }
     ensures { λ r. ⌜ Answers (countRefusal bytes d) r ⌝ }
 {
     if !words::at_least8(d.xnext.0, 1) {

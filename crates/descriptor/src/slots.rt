@@ -3,18 +3,16 @@ use super::numbers::DescriptorNumbers;
 use geometry::EntryNumber;
 use geometry::ExtensionNumber;
 use geometry::Slot;
-ghost use mathlib.Core.Path.{_≡_};
 ghost use Prim.Native.Nat.{_≤_};
 ghost use Rattle.outcome.specs.Outcome.{Answers};
 ghost use Rattle.geometry.specs.Growth.{totalOf};
-ghost use Rattle.geometry.specs.Totals.{totalsOf};
 ghost use Rattle.geometry.specs.Area.{slotOf};
 ghost use Rattle.descriptor.specs.FirstRecord.{growthIn};
-ghost use Rattle.descriptor.specs.Bounds.{Settled};
+ghost use Rattle.descriptor.specs.Bounds.{Settled, TotalsOf};
 
 // The slot of an entry, by the totals of the extensions in use.
 pub fn slot_in_use(d: DescriptorNumbers, totals: &[u64], entry: EntryNumber) -> Slot
-    requires { ⌜ Settled d × (now totals ≡ totalsOf (growthIn d) (d .nex)) × (1 ≤ entry .0) × (entry .0 ≤ totalOf (growthIn d) (d .nex)) ⌝ }
+    requires { ⌜ Settled d × TotalsOf d (now totals) × (1 ≤ entry .0) × (entry .0 ≤ totalOf (growthIn d) (d .nex)) ⌝ }
     ensures { λ r. ⌜ Answers (slotOf (growthIn d) (d .nex) (d .lind) entry) r ⌝ }
 {
     let mut before = 0;

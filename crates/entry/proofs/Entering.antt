@@ -16,6 +16,7 @@ use Rattle.words.proofs.Ranges.{within-bounds, atLeast-bounds}
 use Rattle.geometry.specs.declared.units.RecordNumber.{RecordNumber}
 use Rattle.geometry.specs.declared.units.EntryNumber.{EntryNumber}
 use Rattle.geometry.specs.declared.units.Place.{Place}
+use Rattle.geometry.specs.declared.area.Slot.{Slot}
 use Rattle.geometry.specs.Units.{entriesBefore}
 use Rattle.geometry.specs.Growth.{capacityOf}
 use Rattle.geometry.specs.Area.{slotOf}
@@ -46,7 +47,11 @@ module _ (bytes : ℕ) (d : DescriptorNumbers) (addresses : List RecordNumber) (
       slot-stands (growthIn d) (d .nex) (d .lind) e low
       (omega (arith, fit-reach (growthIn d) (entriesBefore (d .xnext)) (d .nex) (a .fit)))
 
-  -- and ends before the next free position
+  -- so does one that was found to be it
+  pub slot-found : {s : Slot} → s ≡ slotOf (growthIn d) (d .nex) (d .lind) e → Stands (growthIn d) (d .nex) (d .lind) (e .0) s
+  slot-found q = rw q slot-in-use
+
+  -- it ends before the next free position
   pub slot-inside : slotPositionOf d addresses e + d .lind ≤ freeOf d
   unfolding slotPositionOf
   slot-inside =

@@ -1,31 +1,24 @@
 -- What is known of an entry that was entered with no refusal, and what an open is by the validation's case. Assumes nothing.
-use native.Mathlib.Decide.{ℕ-discrete}
 use borrow.Author.Needs.{needs}
 use borrow.Author.Tests.{ne-eqb}
-use Rattle.descriptor.proofs.Answered.{answer-numbers, answer-refused}
 use Prim.Native.Nat.{ℕ, _+_, _*_, _^_, _≤_, _<_}
-use mathlib.Core.Path.{_≡_, refl, sym, ap, _∙_}
-use mathlib.Core.Bool.{true, false}
+use mathlib.Core.Path.{_≡_, sym, ap, _∙_}
+use mathlib.Core.Bool.{true}
 use mathlib.Core.List.{List}
-use lib.Dec.{eqb}
 use lib.ListN.{length}
 use Rattle.geometry.specs.declared.units.RecordNumber.{RecordNumber}
 use Rattle.geometry.specs.declared.units.EntryNumber.{EntryNumber}
 use Rattle.geometry.specs.Units.{entriesBefore}
 use Rattle.descriptor.specs.declared.numbers.DescriptorNumbers.{DescriptorNumbers}
-use Rattle.descriptor.specs.declared.validating.Validated.the-variants.{Numbers, Refused}
-use Rattle.descriptor.specs.declared.validating.Validation.{Validation}
+use Rattle.descriptor.specs.declared.validating.Validated.the-variants.{Numbers}
 use Rattle.descriptor.specs.Bounds.{Admitted}
-use Rattle.descriptor.specs.Rules.{fileRefusal}
-use Rattle.descriptor.specs.Answers.{validationOf}
+use Rattle.descriptor.specs.Answers.{validationOf, noValidation}
 use Rattle.layout.specs.FileCode.{byteOrderOf}
 use Rattle.pieces.specs.Contents.{dataWithin, sectionsWithin}
-use Rattle.pieces.specs.Tables.{noSections}
 use Rattle.pieces.specs.Bounds.{Described}
 use Rattle.entry.specs.declared.entered.Entered.{Entered}
-use Rattle.entry.specs.declared.answers.Open.the-variants as answers
 use Rattle.entry.specs.Opening.{enteredOf}
-use Rattle.entry.specs.Answers.{enteredIn, openedAs, openOf}
+use Rattle.entry.specs.Answers.{enteredIn, notOpened, openedAs, openOf}
 use Rattle.entry.proofs.Entering.{free-within, entry-opens, entered-numbers, entered-refusal}
 
 -- what holds of the numbers of entry e that were entered with no refusal
@@ -47,22 +40,15 @@ known file d addresses e x a q z =
     let inside = free-within (length file) d addresses a in
     rw (q ∙ entered-numbers file d addresses e none) (search needs)
 
--- a file is refused with a number above 0
-refused-some : (file : List ℕ) (n : ℕ) → validationOf file .numbers ≡ Refused n → eqb n 0 ≡ false
-refused-some file n q =
-    elim (ℕ-discrete (fileRefusal file) 0) [
-      | yes z ↦ let w = answer-numbers file z in cc
-      | no z ↦ let w = answer-refused file (fileRefusal file) refl (ne-eqb (fileRefusal file) 0 z) in cc (ne-eqb (fileRefusal file) 0 z)
-    ]
-
--- an open, by the validation's case
+-- an open, by the validation
 module _ (file : List ℕ) (e : EntryNumber) where
   -- a file that is refused opens no entry
-  pub open-refused : {v : Validation} {n : ℕ} → v ≡ validationOf file → v .numbers ≡ Refused n → openOf file e ≡ record { answer = answers.Refused n; sections = noSections }
+  pub open-refused : {n : ℕ} → validationOf file ≡ noValidation n → (n ≡ 0 → ⊥) → openOf file e ≡ notOpened n
   unfolding openOf openedAs enteredIn
-  open-refused {v} {n} q t = let some = refused-some file n (rw q at t) in rw (← q, t, some)
+  open-refused {n} q some = rw (q, ne-eqb n 0 some)
 
   -- and else the answer is made of what was entered
-  pub open-numbers : {v : Validation} {d : DescriptorNumbers} → v ≡ validationOf file → v .numbers ≡ Numbers d → openOf file e ≡ openedAs file (enteredOf file d (v .addresses) e)
+  pub open-numbers : {d : DescriptorNumbers} {addresses : List RecordNumber} → validationOf file ≡ record { refusal = 0; numbers = Numbers d; addresses = addresses }
+      → openOf file e ≡ openedAs file (enteredOf file d addresses e)
   unfolding openOf enteredIn
-  open-numbers q t = rw (← q, t)
+  open-numbers q = rw q

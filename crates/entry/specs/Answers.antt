@@ -29,6 +29,10 @@ enteredIn file (validated.Numbers d) addresses e = enteredOf file d addresses e
 abbrev pub dataPlaceOf : Piece → DataPlace
 dataPlaceOf p = record { adata = record { 0 = signedOf integer8 (p .address .0) }; ldata = p .words }
 
+-- a refused open: the number, and empty tables
+abbrev pub notOpened : ℕ → Opened
+notOpened n = record { answer = Refused n; sections = noSections }
+
 -- the answer: the opened entry's numbers with its tables, or the refusal with empty tables
 unfoldable pub openedAs : List ℕ → Entered → Opened
 openedAs file x =
@@ -37,7 +41,7 @@ openedAs file x =
       answer = Numbers (x .place) (x .version) (x .nsec) (x .nword) (dataPlaceOf (x .array));
       sections = sectionsOf file (x .start) (x .nsec);
     })
-    (record { answer = Refused (x .refusal); sections = noSections })
+    (notOpened (x .refusal))
 
 -- the answer of an open of entry e, whatever the file is
 unfoldable pub openOf : List ℕ → EntryNumber → Opened

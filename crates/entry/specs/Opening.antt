@@ -21,7 +21,6 @@ use Rattle.pieces.specs.declared.contents.Piece.{Piece}
 use Rattle.pieces.specs.EntryDescriptor.{entryCodeOf, versionOf, nsecOf, nwordOf, xnumOf, dataOf}
 use Rattle.pieces.specs.Contents.{dataWithin, sectionsWithin, sectionsApart, dataApart}
 use Rattle.entry.specs.declared.entered.Entered.{Entered}
-use Rattle.entry.specs.declared.inner.Extent.{Extent}
 
 -- where the index of entry e stands: its slot in its extension's area
 unfoldable pub slotPositionOf : DescriptorNumbers → List RecordNumber → EntryNumber → ℕ
@@ -131,7 +130,3 @@ enteredOf file d addresses e =
 -- the position behind an entry
 abbrev pub endOf : Entered → ℕ
 endOf x = x .start + x .nword
-
--- where an entry that opens starts and ends
-abbrev pub extentOf : List ℕ → DescriptorNumbers → List RecordNumber → EntryNumber → Extent
-extentOf file d addresses e = record { start = enteredOf file d addresses e .start; end = endOf (enteredOf file d addresses e) }

@@ -1,14 +1,14 @@
-// What the crates above ask of an entry of validated numbers.
+// What the crates above ask of an entry of validated numbers. The addresses are those that the file has.
 use super::entered::Entered;
 use super::entered::refused;
 use super::rules::content_refusal;
 use super::rules::head_refusal;
 use super::rules::start_refusal;
 use descriptor::DescriptorNumbers;
-use descriptor::inner::aex;
+use descriptor::inner::aex_in;
+use descriptor::inner::slot_in_use;
 use geometry::EntryAddress;
 use geometry::EntryNumber;
-use geometry::Growth;
 use geometry::Place;
 use geometry::RecordNumber;
 use geometry::WordNumber;
@@ -16,39 +16,28 @@ use geometry::byte_offset;
 use geometry::entries_before;
 use geometry::entry_position;
 use geometry::position;
-use geometry::slot_of;
 use layout::entry_descriptor;
 use pieces::Piece;
 use pieces::word4_at;
 use pieces::word8_at;
 use words::ByteOrder;
 ghost use mathlib.Core.Path.{_≡_};
-ghost use Prim.Native.Nat.{_+_, _*_, _≤_, _<_};
+ghost use Prim.Native.Nat.{_+_, _*_, _≤_};
 ghost use lib.ListN.{length};
 ghost use Rattle.outcome.specs.Outcome.{Answers};
 ghost use Rattle.geometry.specs.Units.{entriesBefore};
 ghost use Rattle.layout.specs.FileCode.{byteOrderOf};
-ghost use Rattle.descriptor.specs.Bounds.{Admitted, AdmittedIn};
-ghost use Rattle.entry.specs.Opening.{slotPositionOf, placeStored, entryRefusal, enteredOf, extentOf};
+ghost use Rattle.descriptor.specs.FirstRecord.{addressesOf};
+ghost use Rattle.descriptor.specs.Bounds.{AdmittedIn, TotalsOf};
+ghost use Rattle.entry.specs.Opening.{slotPositionOf, placeStored, enteredOf};
 
-// Where an entry starts, and the position behind it.
-pub struct Extent {
-    pub start: u64,
-    pub end: u64,
-}
-
-// The position of an entry's slot.
-pub fn slot_position(
-    bytes: u64,
-    d: DescriptorNumbers,
-    addresses: [RecordNumber; 16],
-    number: EntryNumber,
-) -> u64
-    requires { ⌜ Admitted bytes d addresses × (1 ≤ number .0) × (number .0 ≤ entriesBefore (d .xnext)) ⌝ }
-    ensures { λ r. ⌜ Answers (slotPositionOf d addresses number) r ⌝ }
+// The position of an entry's slot, by the totals of the extensions in use.
+pub fn slot_position(file: &[u8], d: DescriptorNumbers, totals: &[u64], number: EntryNumber) -> u64
+    requires { ⌜ AdmittedIn (now file) d (addressesOf (now file) (d .nex)) × TotalsOf d (now totals) × (1 ≤ number .0) × (number .0 ≤ entriesBefore (d .xnext)) ⌝ }
+    ensures { λ r. ⌜ Answers (slotPositionOf d (addressesOf (now (file .entry)) (d .nex)) number) r ⌝ }
 {
-    let slot = slot_of(Growth::new(d.lex1, d.gex), d.nex, d.lind, number);
-    let first = aex(addresses, slot.extension);
+    let slot = slot_in_use(d, totals, number);
+    let first = aex_in(d.order, file, slot.extension);
     position(d.reclen, first, WordNumber(1)) + slot.offset
 }
 
@@ -63,23 +52,12 @@ fn place_stored(order: ByteOrder, file: &[u8], slot: u64) -> Place
     }
 }
 
-// The numbers of an entry, or the first rule of 12 to 19 that it breaks.
-pub fn enter(
-    file: &[u8],
-    d: DescriptorNumbers,
-    addresses: [RecordNumber; 16],
-    number: EntryNumber,
-) -> Entered
-    requires { ⌜ AdmittedIn (now file) d addresses ⌝ }
-    ensures { λ r. ⌜ Answers (enteredOf (now (file .entry)) d addresses number) r ⌝ }
+// The numbers of an entry in use, by the position of its slot, or the first rule of 13 to 19 that it breaks.
+pub fn enter_at(file: &[u8], d: DescriptorNumbers, slot: u64, number: EntryNumber) -> Entered
+    requires { ⌜ AdmittedIn (now file) d (addressesOf (now file) (d .nex)) × (1 ≤ number .0) × (number .0 ≤ entriesBefore (d .xnext))
+        × (slot ≡ slotPositionOf d (addressesOf (now file) (d .nex)) number) ⌝ }
+    ensures { λ r. ⌜ Answers (enteredOf (now (file .entry)) d (addressesOf (now (file .entry)) (d .nex)) number) r ⌝ }
 {
-    if number.0 < 1 {
-        return refused(12);
-    }
-    if entries_before(d.xnext) < number.0 {
-        return refused(12);
-    }
-    let slot = slot_position(file.len() as u64, d, addresses, number);
     let place = place_stored(d.order, file, slot);
     let outside = start_refusal(d, place);
     if outside != 0 {
@@ -112,21 +90,18 @@ pub fn enter(
     }
 }
 
-// Where an entry that is known to open starts and ends, as positions.
-pub fn extent_of(
-    file: &[u8],
-    d: DescriptorNumbers,
-    addresses: [RecordNumber; 16],
-    number: EntryNumber,
-) -> Extent
-    requires { ⌜ AdmittedIn (now file) d addresses × (entryRefusal (now file) d addresses number ≡ 0) ⌝ }
-    ensures { λ r. ⌜ Answers (extentOf (now (file .entry)) d addresses number) r ⌝ }
+// The numbers of an entry, by its number and the totals of the extensions in use, or the first rule of 12 to 19 that it
+// breaks.
+pub fn enter(file: &[u8], d: DescriptorNumbers, totals: &[u64], number: EntryNumber) -> Entered
+    requires { ⌜ AdmittedIn (now file) d (addressesOf (now file) (d .nex)) × TotalsOf d (now totals) ⌝ }
+    ensures { λ r. ⌜ Answers (enteredOf (now (file .entry)) d (addressesOf (now (file .entry)) (d .nex)) number) r ⌝ }
 {
-    let slot = slot_position(file.len() as u64, d, addresses, number);
-    let place = place_stored(d.order, file, slot);
-    let start = position(d.reclen, place.record, place.word);
-    Extent {
-        start,
-        end: start + word8_at(d.order, file, start, entry_descriptor::NWORD),
+    if number.0 < 1 {
+        return refused(12);
     }
+    if entries_before(d.xnext) < number.0 {
+        return refused(12);
+    }
+    let slot = slot_position(file, d, totals, number);
+    enter_at(file, d, slot, number)
 }

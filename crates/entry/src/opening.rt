@@ -4,35 +4,37 @@ use super::answers::DataPlace;
 use super::answers::Open;
 use super::answers::Opened;
 use super::inner::enter;
-use descriptor::Validated;
-use descriptor::refusal_of;
-use descriptor::validate;
+use descriptor::inner::admit;
 use geometry::EntryNumber;
 use pieces::no_sections;
 use pieces::section_tables;
 ghost use Rattle.outcome.specs.Outcome.{Answers};
-ghost use Rattle.entry.specs.Answers.{openOf};
+ghost use Rattle.entry.specs.Answers.{openOf, notOpened};
+
+// An open with a refusal.
+fn refused(refusal: u32) -> Opened
+    ensures { λ r. ⌜ Answers (notOpened refusal) r ⌝ }
+{
+    Opened {
+        answer: Open::Refused(refusal),
+        sections: no_sections(),
+    }
+}
 
 // Opens an entry by its number: its numbers and tables, or the first rule of 1 to 11, 29 and 12
 // to 19 that is broken.
 pub fn open_entry(file: &[u8], number: EntryNumber) -> Opened
     ensures { λ r. ⌜ Answers (openOf (now (file .entry)) number) r ⌝ }
 {
-    let validation = validate(file);
-    let case = validation.numbers;
-    let Validated::Numbers(d) = case else {
-        return Opened {
-            answer: Open::Refused(refusal_of(case)),
-            sections: no_sections(),
-        };
-    };
-    let addresses = validation.addresses;
-    let entered = enter(file, d, addresses, number);
+    let mut totals = [0u64; 16];
+    let admitted = admit(file, &mut totals);
+    if admitted.refusal != 0 {
+        return refused(admitted.refusal);
+    }
+    let d = admitted.numbers;
+    let entered = enter(file, d, &totals, number);
     if entered.refusal != 0 {
-        return Opened {
-            answer: Open::Refused(entered.refusal),
-            sections: no_sections(),
-        };
+        return refused(entered.refusal);
     }
     let place = entered.place;
     let array = entered.array;

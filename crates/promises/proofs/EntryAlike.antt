@@ -25,7 +25,7 @@ module _ {f g : List ℕ} {d d′ : DescriptorNumbers} {addresses addresses′ :
     (t : Describes f g d d′ addresses addresses′ e) where
   -- its open answers the same
   pub opens-alike : openOf g e ≡ openOf f e
-  opens-alike = open-numbers g e (sym q) refl ∙ open-there f g d d′ addresses addresses′ e t ∙ sym (open-numbers f e (sym p) refl)
+  opens-alike = open-numbers g e q ∙ open-there f g d d′ addresses addresses′ e t ∙ sym (open-numbers f e p)
 
   -- it starts where it started
   pub start-alike : startIn g e ≡ startIn f e

@@ -47,7 +47,7 @@ module _ {file : List ℕ} {d : DescriptorNumbers} {addresses : List RecordNumbe
   pub open-shown : openOf file e
       ≡ record { answer = answers.Numbers (stored .place) (stored .version) (stored .nsec) (stored .nword) (dataPlaceOf (stored .array)); sections = sectionsOf file (stored .start) (stored .nsec) }
   unfolding openedAs
-  open-shown = open-numbers file e (sym (o .shown)) refl ∙ rw (entered-numbers file d addresses e (o .opens))
+  open-shown = open-numbers file e (o .shown) ∙ rw (entered-numbers file d addresses e (o .opens))
 
   -- where it starts
   pub start-shown : startIn file e ≡ stored .start

@@ -45,7 +45,7 @@ module _ {file : List ℕ} {d : DescriptorNumbers} {addresses : List RecordNumbe
   -- its open
   pub open-none : openOf file e ≡ record { answer = answers.Refused n; sections = noSections }
   unfolding openedAs
-  open-none = open-numbers file e (sym (r .shown)) refl ∙ rw (r .entered, r .some)
+  open-none = open-numbers file e (r .shown) ∙ rw (r .entered, r .some)
 
   -- its index words
   pub index-none : indexWordsOf file e ≡ noPart n

@@ -1,0 +1,8 @@
+-- `entry::opening::refused` meets its contract. Assumes nothing.
+use mathlib.Core.Path.{_≡_}
+use borrow.Author.Needs.{needs}
+use Rattle.entry.proofs.opening.refused.Statement.{statement}
+use Rattle.entry.proofs.opening.refused.Tie as tie
+
+pub refused-spec : {M : Type 1} → statement M
+refused-spec = tie.close (tie.spec (λ c κs. search needs) (λ c. rw (c .no-sections .ensures)))
