@@ -10,22 +10,22 @@ use geometry::capacity;
 use geometry::entries_before;
 use geometry::position;
 use geometry::records_for;
-use geometry::total;
+use geometry::total_before;
 ghost use mathlib.Core.Path.{_≡_};
 ghost use Prim.Native.Nat.{_+_, _^_, _≤_, _<_};
 ghost use Rattle.outcome.specs.Outcome.{Answers};
 ghost use Rattle.geometry.specs.Growth.{capacityOf};
 ghost use Rattle.descriptor.specs.FirstRecord.{freeOf, growthIn};
-ghost use Rattle.descriptor.specs.Bounds.{Settled, Free};
+ghost use Rattle.descriptor.specs.Bounds.{Settled, Free, TotalsOf};
 ghost use Rattle.placing.specs.Placing.{full, newArea, afterNewArea, entryStart};
 ghost use Rattle.placing.specs.Bounds.{Extensible};
 
-// Whether the extensions in use are full.
-pub(crate) fn is_full(d: DescriptorNumbers) -> bool
-    requires { ⌜ Settled d × (1 ≤ d .xnext .0) ⌝ }
+// Whether the extensions in use are full, by their totals.
+pub(crate) fn is_full(d: DescriptorNumbers, totals: &[u64]) -> bool
+    requires { ⌜ Settled d × TotalsOf d (now totals) × (1 ≤ d .xnext .0) ⌝ }
     ensures { λ r. ⌜ Answers (full d) r ⌝ }
 {
-    entries_before(d.xnext) == total(Growth::new(d.lex1, d.gex), d.nex)
+    entries_before(d.xnext) == total_before(totals, ExtensionNumber(d.nex + 1))
 }
 
 // The first record of a new index area.

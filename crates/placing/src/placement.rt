@@ -8,7 +8,7 @@ use descriptor::DescriptorNumbers;
 use geometry::RecordNumber;
 ghost use Prim.Native.Nat.{_^_, _<_};
 ghost use Rattle.outcome.specs.Outcome.{Answers};
-ghost use Rattle.descriptor.specs.Bounds.{Admitted};
+ghost use Rattle.descriptor.specs.Bounds.{Admitted, TotalsOf};
 ghost use Rattle.placing.specs.Placement.{unplaced, placementOf};
 
 // Where an entry goes: the refusal, 0 when it has a place; whether a new extension is made for it; the
@@ -34,18 +34,19 @@ fn no_place(refusal: u32, d: DescriptorNumbers, addresses: [RecordNumber; 16]) -
     }
 }
 
-// The place of an entry of `nword` words in a file of so many bytes and of admitted numbers, or the
-// refusal, 23 or 24.
+// The place of an entry of `nword` words in a file of so many bytes, of admitted numbers and these
+// totals, or the refusal, 23 or 24.
 pub fn place(
     bytes: u64,
     d: DescriptorNumbers,
     addresses: [RecordNumber; 16],
+    totals: &[u64],
     nword: u64,
 ) -> Placement
-    requires { ⌜ Admitted bytes d addresses × (nword < 2 ^ 63) ⌝ }
+    requires { ⌜ Admitted bytes d addresses × TotalsOf d (now totals) × (nword < 2 ^ 63) ⌝ }
     ensures { λ r. ⌜ Answers (placementOf bytes d addresses nword) r ⌝ }
 {
-    let extends = is_full(d);
+    let extends = is_full(d, totals);
     let refusal = extension_refusal(d, extends);
     if refusal != 0 {
         return no_place(refusal, d, addresses);

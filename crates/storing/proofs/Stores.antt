@@ -7,20 +7,24 @@ use lib.IntN.{ℤ}
 use lib.ListN.{length}
 use Rattle.geometry.specs.declared.units.RecordNumber.{RecordNumber}
 use Rattle.geometry.specs.declared.units.EntryAddress.{EntryAddress}
-use Rattle.geometry.specs.Units.{entriesBefore, placeOf}
+use Rattle.outcome.proofs.Either.{either}
+use Rattle.geometry.specs.Units.{placeOf}
 use Rattle.geometry.proofs.Positions.{place-word}
+use Rattle.geometry.proofs.TotalTables.{totals-length, before-total}
 use Rattle.layout.specs.EntryWords.{firstContent}
 use Rattle.descriptor.specs.declared.numbers.DescriptorNumbers.{DescriptorNumbers}
-use Rattle.descriptor.specs.Bounds.{Admitted}
+use Rattle.descriptor.specs.FirstRecord.{growthIn}
+use Rattle.descriptor.specs.Bounds.{Admitted, TotalsOf}
 use Rattle.pieces.specs.EntryDescriptor.{wordOffset}
 use Rattle.placing.specs.declared.placement.Placement.{Placement}
-use Rattle.placing.specs.Placing.{full, entryStart, numbersAfter}
+use Rattle.placing.specs.Placing.{full, entryStart, nexAfter, numbersAfter}
 use Rattle.placing.specs.Placement.{placedAt}
 use Rattle.storing.specs.declared.head.Head.{Head}
 use Rattle.storing.specs.Handed.{Handed, handedIn, nsecIn, nwordIn}
 use Rattle.storing.specs.Writing.{headOf}
-use Rattle.storing.specs.Bounds.{Describing, Accepted, Storing}
-use Rattle.storing.proofs.Accepting.{head-version, head-nsec, value-bytes, entry-within, entry-small, admitted-after, number-last}
+use Rattle.storing.specs.Bounds.{Describing, BeforeLast, Accepted, Storing}
+use Rattle.storing.specs.AsMade.{lastEntry}
+use Rattle.storing.proofs.Accepting.{head-version, head-nsec, value-bytes, entry-within, entry-small, admitted-after}
 
 module _ (bytes : ℕ) (d : DescriptorNumbers) (placed : Placement) (head : Head) (h : Handed) (q : Storing bytes d placed head h) where
   abbrev x : Accepted bytes d (q .addresses) h
@@ -73,8 +77,19 @@ module _ (bytes : ℕ) (d : DescriptorNumbers) (placed : Placement) (head : Head
   placed-admitted = rw (q .stands) (admitted-after bytes d (q .addresses) h x)
 
   -- it is the last entry of them
-  pub number-placed : d .xnext .0 ≤ entriesBefore (placed .numbers .xnext)
-  number-placed = rw (q .stands) (omega (arith, number-last bytes d (q .addresses) h x))
+  pub number-placed : lastEntry (placed .numbers) ≡ d .xnext
+  unfolding numbersAfter
+  number-placed =
+      let e : d .xnext .0 + 1 - 1 ≡ d .xnext .0 = omega arith in
+      ap (λ (p : Placement). lastEntry (p .numbers)) (q .stands) ∙ (λ i. record { 0 = e i })
+
+  -- the totals of the file before it say what the extensions before the last hold together
+  pub before-placed : {totals : List ℕ} → TotalsOf d totals → BeforeLast (placed .numbers) totals
+  unfolding numbersAfter nexAfter
+  before-placed t =
+      let few : nexAfter d ≤ d .nex + 1 = either (full d) (λ e. rw e (omega arith)) (λ e. rw e (omega arith)) in
+      let before = before-total (growthIn d) (d .nex) t (x .admitted .settled .nex-high) (nexAfter d) few in
+      rw (q .stands) (record { table = totals-length (growthIn d) (d .nex) t; before = before })
 
   -- and lind stays
   lind-kept : placed .numbers .lind ≡ d .lind

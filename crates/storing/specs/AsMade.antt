@@ -13,7 +13,7 @@ use Rattle.geometry.specs.declared.units.RecordNumber.{RecordNumber}
 use Rattle.geometry.specs.declared.units.EntryNumber.{EntryNumber}
 use Rattle.geometry.specs.declared.units.EntryAddress.{EntryAddress}
 use Rattle.geometry.specs.declared.units.Place.{Place}
-use Rattle.geometry.specs.Units.{placeOf, offsetOf}
+use Rattle.geometry.specs.Units.{placeOf, offsetOf, entriesBefore}
 use Rattle.layout.specs.FirstRecordWords.{nexWord, aexWord}
 use Rattle.layout.specs.EntryWords.{firstContent}
 use Rattle.descriptor.specs.declared.numbers.DescriptorNumbers.{DescriptorNumbers}
@@ -38,6 +38,10 @@ piecesWrites start first sections values =
     put (wordOffset start first) sections ∷
     put (wordOffset start first + length sections) values ∷
     []
+
+-- the last entry of these numbers
+abbrev pub lastEntry : DescriptorNumbers → EntryNumber
+lastEntry d = record { 0 = entriesBefore (d .xnext) }
 
 -- its index, by its number
 abbrev pub indexWrites : DescriptorNumbers → List RecordNumber → EntryNumber → Place → List ℕ → List Write

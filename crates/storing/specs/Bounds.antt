@@ -6,8 +6,11 @@ use mathlib.Core.List.{List}
 use lib.IntN.{ℤ}
 use lib.ListN.{length}
 use Rattle.geometry.specs.declared.units.RecordNumber.{RecordNumber}
+use Rattle.geometry.specs.Growth.{totalOf}
+use Rattle.geometry.specs.Totals.{totalBefore}
 use Rattle.layout.specs.EntryWords.{sectionsMax, descriptorWords}
 use Rattle.descriptor.specs.declared.numbers.DescriptorNumbers.{DescriptorNumbers}
+use Rattle.descriptor.specs.FirstRecord.{growthIn}
 use Rattle.descriptor.specs.Bounds.{Admitted}
 use Rattle.placing.specs.declared.placement.Placement.{Placement}
 use Rattle.placing.specs.Placing.{entryStart}
@@ -39,6 +42,11 @@ pub record Storing (bytes : ℕ) (d : DescriptorNumbers) (placed : Placement) (h
   pub accepted : Accepted bytes d addresses h
   pub stands : placed ≡ placedAt d addresses (nwordIn h)
   pub headed : head ≡ headOf h (d .xnext)
+
+-- a table of totals says what the extensions before the last hold together
+pub record BeforeLast (d : DescriptorNumbers) (totals : List ℕ) : Type 0 where
+  pub table : length totals ≡ 16
+  pub before : totalBefore totals (d .nex) ≡ totalOf (growthIn d) (d .nex - 1)
 
 -- a descriptor of sections that are counted has its words in the file
 pub record Describing (bytes start : ℕ) (head : Head) (ids lengths : List ℤ) : Type 0 where

@@ -4,25 +4,30 @@ use super::head::Head;
 use super::head::put_head;
 use super::tables::put_tables;
 use descriptor::DescriptorNumbers;
-use entry::inner::slot_position;
 use geometry::EntryAddress;
-use geometry::EntryNumber;
+use geometry::ExtensionNumber;
 use geometry::Place;
 use geometry::RecordNumber;
+use geometry::WordNumber;
 use geometry::byte_offset;
+use geometry::entries_before;
 use geometry::entry_position;
+use geometry::position;
+use geometry::table_index;
+use geometry::total_before;
 use words::ByteOrder;
 ghost use mathlib.Core.Path.{_≡_};
 ghost use Prim.Native.Nat.{_+_, _*_, _-_, _^_, _≤_, _<_};
 ghost use lib.ListN.{length};
-ghost use Rattle.outcome.specs.Outcome.{Leaves};
+ghost use Rattle.outcome.specs.Outcome.{Answers, Leaves};
 ghost use Rattle.image.specs.Writes.{writes};
 ghost use Rattle.geometry.specs.Units.{entriesBefore};
 ghost use Rattle.descriptor.specs.Bounds.{Admitted};
 ghost use Rattle.pieces.specs.EntryDescriptor.{wordOffset};
-ghost use Rattle.storing.specs.Bounds.{Describing};
+ghost use Rattle.entry.specs.Opening.{slotPositionOf};
+ghost use Rattle.storing.specs.Bounds.{Describing, BeforeLast};
 ghost use Rattle.storing.specs.Writing.{slotWrites};
-ghost use Rattle.storing.specs.AsMade.{descriptorWrites, piecesWrites, indexWrites};
+ghost use Rattle.storing.specs.AsMade.{descriptorWrites, piecesWrites, indexWrites, lastEntry};
 
 // Writes the descriptor of the entry: its head and its tables.
 pub fn put_descriptor(
@@ -60,19 +65,37 @@ fn put_slot(order: ByteOrder, file: &mut [u8], slot: u64, place: Place, index: &
     image::put(file, byte_offset(slot + 3), index);
 }
 
-// Writes the index of the entry, by its number.
+// The position of the slot of the last entry: it stands in the last extension in use, behind the slots of
+// those that the totals do not count before it.
+fn last_slot(
+    bytes: u64,
+    numbers: DescriptorNumbers,
+    addresses: [RecordNumber; 16],
+    totals: &[u64],
+) -> u64
+    requires { ⌜ Admitted bytes numbers addresses × BeforeLast numbers (now totals) × (1 ≤ entriesBefore (numbers .xnext)) ⌝ }
+    ensures { λ r. ⌜ Answers (slotPositionOf numbers addresses (lastEntry numbers)) r ⌝ }
+{
+    let extension = ExtensionNumber(numbers.nex);
+    let place = entries_before(numbers.xnext) - total_before(totals, extension);
+    let index = table_index(extension);
+    let first = addresses[index];
+    position(numbers.reclen, first, WordNumber(1)) + (place - 1) * numbers.lind
+}
+
+// Writes the index of the last entry of these numbers.
 pub fn put_index(
     file: &mut [u8],
     numbers: DescriptorNumbers,
     addresses: [RecordNumber; 16],
-    number: EntryNumber,
+    totals: &[u64],
     place: Place,
     index: &[u8],
 )
-    requires { ⌜ Admitted (length (now file)) numbers addresses × (1 ≤ number .0) × (number .0 ≤ entriesBefore (numbers .xnext))
+    requires { ⌜ Admitted (length (now file)) numbers addresses × BeforeLast numbers (now totals) × (1 ≤ entriesBefore (numbers .xnext))
         × (place .word .0 ≤ 4096) × (length (now index) ≡ 4 * (numbers .lind - 3)) ⌝ }
-    ensures { λ _. ⌜ Leaves (writes (now (file .entry)) (indexWrites numbers addresses number place (now (index .entry)))) (now (file .exit)) ⌝ }
+    ensures { λ _. ⌜ Leaves (writes (now (file .entry)) (indexWrites numbers addresses (lastEntry numbers) place (now (index .entry)))) (now (file .exit)) ⌝ }
 {
-    let slot = slot_position(file.len() as u64, numbers, addresses, number);
+    let slot = last_slot(file.len() as u64, numbers, addresses, totals);
     put_slot(numbers.order, file, slot, place, index)
 }

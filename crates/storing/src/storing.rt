@@ -12,15 +12,18 @@ use placing::Placement;
 ghost use lib.ListN.{length};
 ghost use Rattle.outcome.specs.Outcome.{Leaves};
 ghost use Rattle.image.specs.Writes.{writes};
+ghost use Rattle.descriptor.specs.Bounds.{TotalsOf};
 ghost use Rattle.storing.specs.Handed.{handedIn, handed};
 ghost use Rattle.storing.specs.AsMade.{storeWrites};
 ghost use Rattle.storing.specs.Bounds.{Storing};
 
-// Writes an entry with this head at its place, and all that comes with it; no word of the file twice.
+// Writes an entry with this head at its place, and all that comes with it; no word of the file twice. The
+// totals are those of the file before it.
 pub fn store(
     file: &mut [u8],
     d: DescriptorNumbers,
     placed: Placement,
+    totals: &[u64],
     head: Head,
     index: &[u8],
     ids: &[i32],
@@ -28,7 +31,7 @@ pub fn store(
     sections: &[u8],
     values: &[u8],
 )
-    requires { ⌜ Storing (length (now file)) d placed head (handedIn (head .version) (now index) (now ids) (now lengths) (now sections) (now values)) ⌝ }
+    requires { ⌜ Storing (length (now file)) d placed head (handedIn (head .version) (now index) (now ids) (now lengths) (now sections) (now values)) × TotalsOf d (now totals) ⌝ }
     ensures { λ _. ⌜ Leaves (writes (now (file .entry)) (storeWrites d placed head (handed (head .version) index ids lengths sections values))) (now (file .exit)) ⌝ }
 {
     put_descriptor(d.order, file, placed.start, head, ids, lengths);
@@ -45,7 +48,7 @@ pub fn store(
         file,
         numbers,
         addresses,
-        d.xnext,
+        totals,
         place_at(d.reclen, placed.start),
         index,
     );

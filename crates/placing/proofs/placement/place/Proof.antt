@@ -13,60 +13,60 @@ use Rattle.placing.proofs.placement.place.Statement.{statement}
 use Rattle.placing.proofs.placement.place.Tie as tie
 
 -- rule 23 passed
-passed : (c : tie.Else1) → extensionRefusal (c .before .before .before .args .d) ≡ 0
+passed : (c : tie.Else1) → extensionRefusal (c .before .before .before .before .args .d) ≡ 0
 passed c = sym (c .before .extension-refusal .ensures) ∙ c .if1 .left
 
-may-extend : (c : tie.Else1) → Extensible (c .before .before .before .args .d)
-may-extend c = extensible (c .before .before .before .args .d) (passed c)
+may-extend : (c : tie.Else1) → Extensible (c .before .before .before .before .args .d)
+may-extend c = extensible (c .before .before .before .before .args .d) (passed c)
 
 -- where the entry ends
-end : (c : tie.After-entry-start) → let a = c .before .before .before .before .args in c .entry-start .result + a .nword ≡ entryStart (a .d) + a .nword
+end : (c : tie.After-entry-start) → let a = c .before .before .before .before .before .args in c .entry-start .result + a .nword ≡ entryStart (a .d) + a .nword
 end c = omega (arith, c .entry-start .ensures)
 
 returns : tie.Need-returns
 returns c =
-    let s = c .before .before .before .before in
+    let s = c .before .before .before .before .before in
     let e = c .before .before .extension-refusal .ensures in
     let e' : extensionRefusal (s .args .d) ≡ c .before .before .extension-refusal .result = sym e in
     c .no-place .ensures ∙ sym (place-unextended (s .args .d) (s .args .bytes) (s .args .nword) (s .args .addresses) (λ q. c .before .if1 .taken (e ∙ q)) ∙ rw e')
 
 entry-start-requires : tie.Need-entry-start-requires
 entry-start-requires c κs =
-    let s = c .before .before .before in
+    let s = c .before .before .before .before in
     let a = s .pre .0 in
     (a .settled, a .free, free-small _ _ _ a, c .before .before .is-full .ensures, may-extend c)
 
 add-end : tie.Need-add-end
 add-end c =
-    let s = c .before .before .before .before in
+    let s = c .before .before .before .before .before in
     let a = s .pre .0 in
-    omega (arith, end c, start-small (s .args .d) (a .settled) (free-small _ _ _ a) (may-extend (c .before)), s .pre .1)
+    omega (arith, end c, start-small (s .args .d) (a .settled) (free-small _ _ _ a) (may-extend (c .before)), s .pre .2)
 
 returns-2 : tie.Need-returns-2
 returns-2 c =
     let p = c .before .before in
-    let s = p .before .before .before .before in
+    let s = p .before .before .before .before .before in
     let far : s .args .bytes / 4 < entryStart (s .args .d) + s .args .nword = omega (arith, end p, c .before .if2 .taken) in
     c .no-place2 .ensures ∙ sym (place-outside (s .args .d) (s .args .bytes) (s .args .nword) (s .args .addresses) (passed (p .before)) far)
 
 numbers-after-requires : tie.Need-numbers-after-requires
 numbers-after-requires c κs =
     let p = c .before in
-    let s = p .before .before .before .before in
+    let s = p .before .before .before .before .before in
     let a = s .pre .0 in
     (a .settled, xnext-small _ _ _ a, p .before .before .before .is-full .ensures, omega (arith, c .if2 .left, a .lent .high))
 
 addresses-after-requires : tie.Need-addresses-after-requires
 addresses-after-requires c κs =
     let p = c .before .before in
-    let s = p .before .before .before .before in
+    let s = p .before .before .before .before .before in
     let a = s .pre .0 in
     (a .settled, a .free, free-small _ _ _ a, p .before .before .before .is-full .ensures, may-extend (p .before))
 
 returns-3 : tie.Need-returns-3
 returns-3 c =
     let p = c .before .before .before in
-    let s = p .before .before .before .before in
+    let s = p .before .before .before .before .before in
     let d = s .args .d in
     let near : entryStart d + s .args .nword ≤ s .args .bytes / 4 = omega (arith, end p, c .before .before .if2 .left) in
     (λ i. record {

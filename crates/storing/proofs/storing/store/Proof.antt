@@ -1,20 +1,21 @@
 -- `storing::storing::store` meets its contract: the steps one after the other. Assumes nothing.
-use mathlib.Core.Path.{_≡_, sym, _∙_}
+use mathlib.Core.Path.{_≡_, sym, ap, _∙_}
 use native.Mathlib.Omega.{arith}
 use lib.ListN.{length}
 use Rattle.image.specs.Writes.{writes}
 use Rattle.image.proofs.Writes.{writes-append}
+use Rattle.geometry.specs.declared.units.EntryNumber.{EntryNumber}
 use Rattle.descriptor.proofs.Admitting.{free-small}
 use Rattle.fields.specs.FieldWrites.{countWrites}
 use Rattle.storing.specs.Handed.{Handed, handedIn}
 use Rattle.storing.specs.AsMade.{piecesWrites, indexWrites, restWrites}
-use Rattle.storing.proofs.Stores.{start-placed, extends-placed, nsec-headed, start-inside, start-small, describing, content-inside, placed-admitted, number-placed, index-fits, word-small}
+use Rattle.storing.proofs.Stores.{start-placed, extends-placed, nsec-headed, start-inside, start-small, describing, content-inside, placed-admitted, number-placed, before-placed, index-fits, word-small}
 use Rattle.storing.proofs.storing.store.Statement.{statement}
 use Rattle.storing.proofs.storing.store.Tie as tie
 
 -- the places on the way, each from the one behind it
 abbrev began : tie.After-put-descriptor → tie.Start
-began c = let p : tie.After-put-descriptor-arg = c .before in p .before .before .before .before .before
+began c = let p : tie.After-put-descriptor-arg = c .before in p .before .before .before .before .before .before
 
 abbrev descriptor-put : tie.After-put-content → tie.After-put-descriptor
 descriptor-put c = c .before .before .before .before .before
@@ -46,34 +47,36 @@ after-rest : (c : tie.After-put-rest) → length (c .put-rest .last .0) ≡ leng
 after-rest c = c .put-rest .kept .0 ∙ after-index (index-put c)
 
 put-descriptor-requires : tie.Need-put-descriptor-requires
-put-descriptor-requires c κs = describing _ _ _ _ _ (c .before .before .before .before .before .pre)
+put-descriptor-requires c κs = describing _ _ _ _ _ (c .before .before .before .before .before .before .pre .0)
 
 first-content-requires : tie.Need-first-content-requires
 first-content-requires c κs =
-    let q = began (c .before .before .before) .pre in
+    let q = began (c .before .before .before) .pre .0 in
     omega (arith, nsec-headed _ _ _ _ _ q, q .accepted .fitting .few)
 
 put-content-requires : tie.Need-put-content-requires
 put-content-requires c κs =
     let p = c .before .before .before .before in
-    let inside = content-inside _ _ _ _ _ (began p .pre) (c .first-content .result) (c .first-content .ensures) in
+    let inside = content-inside _ _ _ _ _ (began p .pre .0) (c .first-content .result) (c .first-content .ensures) in
     (inside .0, inside .1, rw (p .put-descriptor .kept .1 .0) (inside .2))
 
 place-at-requires : tie.Need-place-at-requires
 place-at-requires c κs =
-    let q = began (descriptor-put (c .before .before .before .before .before)) .pre in
+    let q = began (descriptor-put (c .before .before .before .before .before)) .pre .0 in
     omega (arith, start-small _ _ _ _ _ q, q .accepted .admitted .settled .reclen-low, q .accepted .admitted .settled .reclen-high)
 
 put-index-requires : tie.Need-put-index-requires
 put-index-requires c κs =
     let p = content-put c in
-    let q = began (descriptor-put p) .pre in
-    (rw (after-content p) (placed-admitted _ _ _ _ _ q), q .accepted .admitted .counted, number-placed _ _ _ _ _ q, rw (c .place-at .ensures) (word-small _ _ _ _ _ q), index-fits _ _ _ _ _ q)
+    let s = began (descriptor-put p) in
+    let q = s .pre .0 in
+    let number = ap (λ (e : EntryNumber). e .0) (number-placed _ _ _ _ _ q) in
+    (rw (after-content p) (placed-admitted _ _ _ _ _ q), before-placed _ _ _ _ _ q (s .pre .1), omega (arith, number, q .accepted .admitted .counted), rw (c .place-at .ensures) (word-small _ _ _ _ _ q), index-fits _ _ _ _ _ q)
 
 put-rest-requires : tie.Need-put-rest-requires
 put-rest-requires c κs =
     let p = c .before .before .before in
-    let q = first p .pre in
+    let q = first p .pre .0 in
     let a = q .accepted .admitted in (
       a .settled,
       a .free,
@@ -89,7 +92,7 @@ put-rest-requires c κs =
 put-counts-requires : tie.Need-put-counts-requires
 put-counts-requires c κs =
     let p = c .before .before .before in
-    let a = placed-admitted _ _ _ _ _ (first (index-put p) .pre) in
+    let a = placed-admitted _ _ _ _ _ (first (index-put p) .pre .0) in
     (omega (arith, a .free .word-high, a .settled .reclen-high), omega (arith, a .lent .first, a .settled .reclen-low, after-rest p))
 
 same-length : tie.Need-same-length
@@ -107,7 +110,8 @@ returns c =
     let p = a .placed in
     let filled = content .put-content .ensures
     ∙ (λ i. writes (described .put-descriptor .ensures i) (piecesWrites (p .start) (content .before .first-content .ensures i) (a .sections .now) (a .values .now))) in
-    let indexed = index .put-index .ensures ∙ (λ i. writes (filled i) (indexWrites (p .numbers) (p .addresses) (d .xnext) (index .before .place-at .ensures i) (a .index .now))) in
+    let number = number-placed _ _ _ _ _ (first index .pre .0) in
+    let indexed = index .put-index .ensures ∙ (λ i. writes (filled i) (indexWrites (p .numbers) (p .addresses) (number i) (index .before .place-at .ensures i) (a .index .now))) in
     counts .put-counts .ensures
     ∙ (λ i. writes ((rest .put-rest .ensures ∙ (λ j. writes (indexed j) (restWrites d))) i) (countWrites (p .numbers)))
     ∙ sym (writes-append _ (restWrites d) (countWrites (p .numbers)))
