@@ -3,7 +3,9 @@
 use super::cursor::Cursor;
 use super::cursor::past_entry;
 use descriptor::DescriptorNumbers;
+use geometry::Growth;
 use geometry::RecordNumber;
+use geometry::totals_of;
 use writer::inner::AppendedFrom;
 use writer::inner::append_from;
 ghost use lib.ListN.{length};
@@ -49,9 +51,11 @@ fn append_between(
     let sections_end = next.sections;
     let values_at = at.values;
     let values_end = next.values;
+    let totals = totals_of(Growth::new(d.lex1, d.gex), d.nex);
     append_from(
         d,
         addresses,
+        &totals,
         file,
         version,
         &index[index_at..index_end],

@@ -1,12 +1,10 @@
 -- The record of an open file (Q-5 of 02): what validating gives, and the running totals of the capacities.
-use Prim.Native.Nat.{ℕ, _+_}
+use Prim.Native.Nat.{ℕ}
 use mathlib.Core.Path.{_≡_}
 use mathlib.Core.List.{List}
 use lib.ListN.{replicate}
-use Rattle.words.specs.Table.{places}
-use Rattle.geometry.specs.declared.growth.Growth.{Growth}
 use Rattle.geometry.specs.declared.units.RecordNumber.{RecordNumber}
-use Rattle.geometry.specs.Growth.{totalOf}
+use Rattle.geometry.specs.Totals.{totalsOf}
 use Rattle.descriptor.specs.declared.numbers.DescriptorNumbers.{DescriptorNumbers}
 use Rattle.descriptor.specs.declared.validating.Validated.{Validated}
 use Rattle.descriptor.specs.declared.validating.Validated.the-variants.{Numbers, Refused}
@@ -14,10 +12,6 @@ use Rattle.descriptor.specs.FirstRecord.{growthIn}
 use Rattle.descriptor.specs.Answers.{noNumbers, validationOf}
 use Rattle.held.specs.declared.answers.OpenFile.{OpenFile}
 use Rattle.held.specs.declared.answers.OpenFileAnswer.{OpenFileAnswer}
-
--- the running totals: place k, counted from 1, holds the first k capacities together. 16 places, those past nex zero
-unfoldable pub totalsOf : Growth → ℕ → List ℕ
-totalsOf g nex = places 16 nex (λ i. totalOf g (i + 1)) 0
 
 -- the record of these numbers and addresses
 abbrev pub openFileWith : DescriptorNumbers → List RecordNumber → OpenFile

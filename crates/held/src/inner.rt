@@ -1,9 +1,9 @@
 // The record of a file whose numbers and addresses are at hand, as after validating it.
 use super::answers::OpenFile;
-use super::totals::totals_of;
 use descriptor::DescriptorNumbers;
 use geometry::Growth;
 use geometry::RecordNumber;
+use geometry::totals_of;
 ghost use Rattle.outcome.specs.Outcome.{Answers};
 ghost use Rattle.descriptor.specs.Bounds.{Settled};
 ghost use Rattle.held.specs.Record.{openFileWith};

@@ -8,7 +8,6 @@ mod comparing;
 pub mod inner;
 mod opening;
 mod rules;
-mod totals;
 
 pub use answers::OpenFile;
 pub use answers::OpenFileAnswer;

@@ -1,11 +1,9 @@
 // The record of an open file, made from its first record.
 use super::answers::OpenFile;
 use super::answers::OpenFileAnswer;
-use super::inner::open_file_with;
-use descriptor::Validated;
+use descriptor::inner::addresses_of;
+use descriptor::inner::admit;
 use descriptor::no_numbers;
-use descriptor::refusal_of;
-use descriptor::validate;
 use geometry::RecordNumber;
 ghost use Rattle.outcome.specs.Outcome.{Answers};
 ghost use Rattle.held.specs.Record.{noOpenFile, openFileOf};
@@ -27,14 +25,17 @@ fn no_open_file(refusal: u32) -> OpenFileAnswer
 pub fn open_file_of(file: &[u8]) -> OpenFileAnswer
     ensures { λ r. ⌜ Answers (openFileOf (now (file .entry))) r ⌝ }
 {
-    let validation = validate(file);
-    let case = validation.numbers;
-    let Validated::Numbers(d) = case else {
-        return no_open_file(refusal_of(case));
-    };
-    let addresses = validation.addresses;
-    OpenFileAnswer {
-        refusal: 0,
-        file: open_file_with(d, addresses),
+    let mut totals = [0u64; 16];
+    let admitted = admit(file, &mut totals);
+    if admitted.refusal != 0 {
+        return no_open_file(admitted.refusal);
     }
+    let numbers = admitted.numbers;
+    let addresses = addresses_of(numbers.order, file, numbers.nex);
+    let file = OpenFile {
+        numbers,
+        addresses,
+        totals,
+    };
+    OpenFileAnswer { refusal: 0, file }
 }

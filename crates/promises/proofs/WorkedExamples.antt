@@ -27,7 +27,8 @@ use Rattle.batch.specs.Rules.{batchRefusal}
 use Rattle.batch.specs.Answers.{batchOf, fileAfterBatch}
 use Rattle.update.specs.Rules.{contentRefusal}
 use Rattle.update.specs.Answers.{updateAt, fileAt}
-use Rattle.held.specs.Record.{totalsOf, openFileIn}
+use Rattle.geometry.specs.Totals.{totalsOf}
+use Rattle.held.specs.Record.{openFileIn}
 use Rattle.held.specs.Rules.{heldRefusal}
 use Rattle.through.specs.Answers.{appendThrough, batchThrough, updateThrough}
 use Rattle.promises.specs.FileA.{A}

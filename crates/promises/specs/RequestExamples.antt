@@ -23,7 +23,8 @@ use Rattle.batch.specs.Batch.{Batch, laidIn, batchIn, entriesIn}
 use Rattle.batch.specs.Answers.{batchOf, fileAfterBatch}
 use Rattle.update.specs.Answers.{Update, updateIn, updateOf, fileAfterUpdate}
 use Rattle.held.specs.declared.answers.OpenFile.{OpenFile}
-use Rattle.held.specs.Record.{totalsOf, openFileOf}
+use Rattle.geometry.specs.Totals.{totalsOf}
+use Rattle.held.specs.Record.{openFileOf}
 use Rattle.held.specs.Rules.{fieldsOf, heldRefusal}
 use Rattle.through.specs.Answers.{appendThrough, batchThrough, updateThrough}
 use Rattle.promises.specs.Contents.{numbersIn, openedIn, found, sectionFound}

@@ -4,7 +4,7 @@ use Rattle.descriptor.specs.declared.numbers.DescriptorNumbers.{DescriptorNumbe
 use Rattle.descriptor.specs.FirstRecord.{growthIn}
 use Rattle.descriptor.specs.Bounds.{Settled}
 use Rattle.held.specs.declared.answers.OpenFile.{OpenFile}
-use Rattle.held.specs.Record.{totalsOf}
+use Rattle.geometry.specs.Totals.{totalsOf}
 
 -- they are within their limits, and the totals of the record before the call are those of their growth, for the extensions that were in use
 pub record Grown (held : OpenFile) (d : DescriptorNumbers) : Type 0 where

@@ -8,7 +8,7 @@ use Rattle.descriptor.specs.FirstRecord.{createdOf}
 use Rattle.descriptor.specs.Rules.{settingRefusal, creationRules}
 use Rattle.descriptor.specs.Bounds.{Narrow}
 use Rattle.descriptor.proofs.Refusals.{all-hold}
-use Rattle.descriptor.proofs.Passed.{narrow, settled, lent}
+use Rattle.descriptor.proofs.Passed.{narrow, settled, lent, setting-passed}
 use Rattle.writer.specs.Creation.{creationRefusal}
 
 -- an accepted creation: the numbers fit, and the bytes hold the first record
@@ -20,4 +20,4 @@ created-fits bytes s e =
     let rows = all-hold (creationRules bytes d) (omega arith) e in
     let passed : settingRefusal bytes d ≡ 0 = rw (rows .0) at e in
     let p = settled bytes d passed in
-    (narrow bytes d passed (omega arith), p .reclen-low, p .reclen-high, lent bytes d passed (leb-true 64 bytes (rows .0)) .first)
+    (narrow bytes d passed (omega arith), p .reclen-low, p .reclen-high, lent bytes d (setting-passed bytes d passed .0) (leb-true 64 bytes (rows .0)) .first)

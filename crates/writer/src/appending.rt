@@ -1,8 +1,7 @@
 // Appending an entry to a file.
 use super::inner::append_from;
-use descriptor::Validated;
-use descriptor::refusal_of;
-use descriptor::validate;
+use descriptor::inner::addresses_of;
+use descriptor::inner::admit;
 use geometry::EntryNumber;
 ghost use Rattle.storing.specs.Handed.{handed};
 ghost use Rattle.writer.specs.Answers.{Appends};
@@ -28,18 +27,20 @@ pub fn append(
 ) -> Appended
     ensures { λ r. ⌜ Appends (now (file .entry)) (handed version index ids lengths sections values) r (now (file .exit)) ⌝ }
 {
-    let validation = validate(file);
-    let case = validation.numbers;
-    let Validated::Numbers(d) = case else {
+    let mut totals = [0u64; 16];
+    let admitted = admit(file, &mut totals);
+    if admitted.refusal != 0 {
         return Appended {
-            refusal: refusal_of(case),
+            refusal: admitted.refusal,
             number: EntryNumber(0),
         };
-    };
-    let addresses = validation.addresses;
+    }
+    let d = admitted.numbers;
+    let addresses = addresses_of(d.order, file, d.nex);
     let appended = append_from(
         d,
         addresses,
+        &totals,
         file,
         version,
         index,

@@ -8,7 +8,7 @@ use storing::head_of;
 use storing::store;
 ghost use lib.ListN.{length};
 ghost use Rattle.outcome.specs.Outcome.{Answers};
-ghost use Rattle.descriptor.specs.Bounds.{Admitted};
+ghost use Rattle.descriptor.specs.Bounds.{Admitted, TotalsOf};
 ghost use Rattle.storing.specs.Handed.{handed};
 ghost use Rattle.writer.specs.Answers.{refusedFrom, AppendsFrom};
 
@@ -33,10 +33,12 @@ fn refused_from(refusal: u32, d: DescriptorNumbers, addresses: [RecordNumber; 16
     }
 }
 
-// Appends an entry to a file of admitted numbers, or refuses by 21 to 24 and changes nothing.
+// Appends an entry to a file of admitted numbers and these totals, or refuses by 21 to 24 and changes
+// nothing.
 pub fn append_from(
     d: DescriptorNumbers,
     addresses: [RecordNumber; 16],
+    totals: &[u64],
     file: &mut [u8],
     version: i32,
     index: &[u8],
@@ -45,7 +47,7 @@ pub fn append_from(
     sections: &[u8],
     values: &[u8],
 ) -> AppendedFrom
-    requires { ⌜ Admitted (length (now file)) d addresses ⌝ }
+    requires { ⌜ Admitted (length (now file)) d addresses × TotalsOf d (now totals) ⌝ }
     ensures { λ r. ⌜ AppendsFrom (now (file .entry)) d addresses (handed version index ids lengths sections values) r (now (file .exit)) ⌝ }
 {
     let handed = handed_refusal(d, index, ids, lengths, sections, values);
@@ -59,11 +61,22 @@ pub fn append_from(
         (values.len() / 4) as u64,
         d.xnext,
     );
-    let placed = place(file.len() as u64, d, addresses, head.nword);
+    let placed = place(file.len() as u64, d, addresses, totals, head.nword);
     if placed.refusal != 0 {
         return refused_from(placed.refusal, d, addresses);
     }
-    store(file, d, placed, head, index, ids, lengths, sections, values);
+    store(
+        file,
+        d,
+        placed,
+        totals,
+        head,
+        index,
+        ids,
+        lengths,
+        sections,
+        values,
+    );
     let number = d.xnext;
     let numbers = placed.numbers;
     let table = placed.addresses;

@@ -28,7 +28,7 @@ use Rattle.descriptor.specs.Areas.{areaAfter, areasStart, areasEnd}
 use Rattle.descriptor.specs.Rules.{settingRules, settingRefusal, creationRules, entriesFit, noLeftovers}
 use Rattle.descriptor.specs.Bounds.{Narrow, Admitted}
 use Rattle.descriptor.proofs.Refusals.{refusal-none, all-hold}
-use Rattle.descriptor.proofs.Passed.{settled, lent}
+use Rattle.descriptor.proofs.Passed.{settled, lent, setting-passed}
 use Rattle.fields.specs.FieldWrites.{settingWrites, countWrites, growthWrites, firstWritten}
 use Rattle.writer.specs.Creation.{creationRefusal, createdFile}
 use Rattle.writer.proofs.Created.{created-fits}
@@ -57,7 +57,7 @@ module _ (bytes : ℕ) (s : Settings) (e : creationRefusal bytes s ≡ 0) where
   unfolding createdOf entriesFit areasStart areaAfter areasEnd positionOf
   created-admitted =
       let t = settled bytes d (passed .1) in
-      let l = lent bytes d (passed .1) (passed .0) in
+      let l = lent bytes d (setting-passed bytes d (passed .1) .0) (passed .0) in
       record {
         settled = t;
         lent = l;

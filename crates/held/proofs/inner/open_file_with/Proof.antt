@@ -4,7 +4,7 @@ use mathlib.Core.List.{List}
 use Prim.Native.Nat.{ℕ}
 use borrow.Author.Needs.{needs}
 use Rattle.geometry.specs.declared.growth.Growth.{Growth}
-use Rattle.held.specs.Record.{totalsOf}
+use Rattle.geometry.specs.Totals.{totalsOf}
 use Rattle.held.proofs.inner.open_file_with.Statement.{statement}
 use Rattle.held.proofs.inner.open_file_with.Tie as tie
 

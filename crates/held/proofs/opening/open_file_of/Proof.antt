@@ -1,44 +1,43 @@
--- `held::opening::open_file_of` meets its contract: it validates, and makes the record of what that gives. Assumes nothing.
-use mathlib.Core.Path.{sym, ap, _∙_}
 use borrow.Author.Needs.{needs}
-use Rattle.descriptor.proofs.Answered.{told, refusal-told}
-use Rattle.held.specs.declared.answers.OpenFile.{OpenFile}
-use Rattle.held.specs.Record.{noOpenFile, openFileIn}
-use Rattle.held.proofs.Held.{record-by}
 use Rattle.held.proofs.opening.open_file_of.Statement.{statement}
 use Rattle.held.proofs.opening.open_file_of.Tie as tie
+use Rattle.held.proofs.opening.open_file_of.Reads as reads
+use Rattle.held.proofs.opening.open_file_of.Lts as lts
+use Rattle.descriptor.proofs.inner.addresses_of.Reads as addresses-of-reads
+use Rattle.descriptor.proofs.inner.admit.Reads as admit-reads
+use Rattle.held.proofs.opening.no_open_file.Reads as no-open-file-reads
 
--- where the function began
-abbrev began : tie.After-validate → tie.Start
-began c = c .before .before
+-- src/opening.rt:29:32
+slice-aggregate-admit : tie.Need-slice-aggregate-admit
+slice-aggregate-admit c = search needs
 
+-- src/opening.rt:29:9
+admit-requires : tie.Need-admit-requires
+admit-requires c κs = search needs
+
+-- src/opening.rt:31:9
+no-open-file-requires : tie.Need-no-open-file-requires
+no-open-file-requires c κs = search needs
+
+-- src/opening.rt:31:9
 returns : tie.Need-returns
-unfolding openFileIn
-returns c =
-    let v = c .before .before .before .before in
-    let t = c .before .before .enum-told .given .1 in
-    let n = refusal-told (c .before .refusal-of .ensures) t in
-    c .no-open-file .ensures ∙ ap noOpenFile n ∙ sym (record-by (began v .args .file .now) (v .validate .result) _ (v .validate .ensures) t)
+returns c = ?
 
--- the file was validated on the way
-abbrev from-validate : tie.After-addresses → tie.After-validate
-from-validate c = c .before .before .before .before
+-- src/opening.rt:34:9
+addresses-of-requires : tie.Need-addresses-of-requires
+addresses-of-requires c κs = ?
 
-open-file-with-requires : tie.Need-open-file-with-requires
-open-file-with-requires c κs =
-    let v = from-validate c in
-    told (began v .args .file .now) (v .validate .result) _ (v .validate .ensures) (c .before .before .case .given .1) .admitted .admitted .settled
-
+-- src/opening.rt:25:1
 returns-2 : tie.Need-returns-2
-unfolding openFileIn
-returns-2 c =
-    let a = c .before in
-    let v = from-validate a in
-    let t = a .before .before .case .given .1 in
-    ap (λ (x : OpenFile). record { refusal = 0; file = x }) (c .open-file-with .ensures)
-    ∙ sym (record-by (began v .args .file .now) (v .validate .result) _ (v .validate .ensures) t)
+returns-2 c = ?
 
 pub open-file-of-spec : {M : Type 1} → statement M
 open-file-of-spec =
     tie.close
-    (tie.spec (λ c κs. search needs) (λ c. search needs) (λ c. search needs) (λ c κs. search needs) (λ c κs. search needs) returns open-file-with-requires returns-2)
+    (tie.spec
+    slice-aggregate-admit
+    admit-requires
+    no-open-file-requires
+    returns
+    addresses-of-requires
+    returns-2)

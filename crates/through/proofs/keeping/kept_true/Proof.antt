@@ -4,7 +4,7 @@ use mathlib.Core.Path.{_≡_, sym, ap, _∙_}
 use mathlib.Core.List.{List}
 use borrow.Author.Needs.{needs}
 use Rattle.descriptor.specs.FirstRecord.{growthIn}
-use Rattle.held.specs.Record.{totalsOf}
+use Rattle.geometry.specs.Totals.{totalsOf}
 use Rattle.through.proofs.keeping.kept_true.Statement.{statement}
 use Rattle.through.proofs.keeping.kept_true.Tie as tie
 

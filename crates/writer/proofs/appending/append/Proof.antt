@@ -1,60 +1,80 @@
 -- `writer::appending::append` meets its contract: it validates, and appends from what that shows. Assumes nothing.
-use mathlib.Core.Path.{sym, ap, _∙_}
-use Prim.Native.Nat.{ℕ}
-use Rattle.descriptor.proofs.Answered.{told, refusal-told}
-use Rattle.writer.specs.declared.inner.AppendedFrom.{AppendedFrom}
-use Rattle.writer.proofs.Answering.{append-by, file-by}
-use Rattle.writer.specs.Answers.{appendIn, fileIn}
+use mathlib.Core.Path.{_≡_, refl, sym, ap, _∙_}
+use native.Mathlib.Omega.{arith}
+use denote.Ref.{now}
 use mir.Facts.{toZ-ofZ}
 use borrow.Author.Needs.{needs}
+use Rattle.descriptor.specs.declared.validating.Validated.the-variants.{Numbers, Refused}
+use Rattle.descriptor.specs.declared.validating.Validation.{Validation}
+use Rattle.descriptor.specs.Answers.{validationOf, noValidation}
+use Rattle.descriptor.proofs.Answered.{Admits, case-told, case-left}
+use Rattle.writer.specs.declared.inner.AppendedFrom.{AppendedFrom}
+use Rattle.writer.specs.Answers.{appendIn, fileIn}
+use Rattle.writer.proofs.Answering.{append-by, file-by}
 use Rattle.writer.proofs.appending.append.Statement.{statement}
 use Rattle.writer.proofs.appending.append.Tie as tie
 
 -- the places on the way, each from the one behind it
-abbrev began : tie.After-validate → tie.Start
-began c = let p : tie.After-validate-arg = c .before in p .before .before .before .before .before
+abbrev began : tie.After-admit → tie.Start
+began c = let p : tie.After-admit-arg = c .before .before in p .before .before .before .before .before
 
-abbrev refused-at : tie.After-refusal-of → tie.After-validate
-refused-at c = c .before .before .before
+abbrev called : tie.Else1 → tie.After-admit
+called c = c .before .before .before
 
-abbrev from-validate : tie.After-append-from-arg → tie.After-validate
-from-validate c = c .before .before .before .before .before
+abbrev admitted-at : tie.After-addresses-of → tie.Else1
+admitted-at c = c .before .before .before
+
+-- what validating shows where it does not refuse
+shown : (c : tie.Else1) → let a = called c in Admits (began a .args .file .now) (a .admit .result) (a .admit .last .1 .0)
+shown c = let a = called c .admit in case-told _ (a .result) (a .ensures .0) (a .ensures .1) (c .if1 .left)
+
+-- the validation, with the addresses that were read
+abbrev validation : tie.After-addresses-of → Validation
+validation c = record { refusal = 0; numbers = Numbers (called (admitted-at c) .admit .result .numbers); addresses = c .addresses-of .result }
+
+validates : (c : tie.After-addresses-of) → validation c ≡ validationOf (began (called (admitted-at c)) .args .file .now)
+validates c =
+    let e = admitted-at c in
+    (λ i. record { refusal = 0; numbers = Numbers (called e .admit .result .numbers); addresses = c .addresses-of .ensures i }) ∙ sym (shown e .validation)
 
 returns : tie.Need-returns
 unfolding appendIn fileIn
 returns c =
-    let v = refused-at c .validate in
-    let t = c .before .enum-told .given .1 in
-    let file = began (refused-at c) .args .file .now in
-    let n = refusal-told (c .refusal-of .ensures) t in
-    (ap (λ (k : ℕ). record { refusal = k; number = record { 0 = 0 } }) n ∙ sym (append-by file (v .result) _ (v .ensures) t _), sym (file-by file (v .result) _ (v .ensures) t _))
+    let a = c .before .before .before in
+    let n = a .admit .result .refusal in
+    let file = began a .args .file .now in
+    let left = sym (case-left file (a .admit .result) (a .admit .ensures .0) (c .if1 .taken)) in
+    (sym (append-by file (noValidation n) (Refused n) left refl _), sym (file-by file (noValidation n) (Refused n) left refl _))
 
 append-from-requires : tie.Need-append-from-requires
 append-from-requires c κs =
-    let v = from-validate c in
-    let n = c .before .before .before .case in
-    told (began v .args .file .now) (v .validate .result) (n .given .0 .0) (v .validate .ensures) (n .given .1) .admitted .admitted
+    let x = c .before .before in
+    let p = shown (admitted-at x) in
+    (rw (x .addresses-of .ensures) (p .admitted .admitted), p .table)
 
 returns-2 : tie.Need-returns-2
 unfolding appendIn fileIn
 returns-2 c =
     let r = c .before .before .before in
-    let s = began (from-validate (r .before)) in
-    let v = from-validate (r .before) .validate in
-    let t = r .before .before .before .before .case .given .1 in
+    let x = r .before .before .before in
+    let s = began (called (admitted-at x)) in
+    let d = called (admitted-at x) .admit .result .numbers in
     let a = rw (toZ-ofZ (s .fits .version)) at (r .append-from .ensures) in
-    (ap (λ (x : AppendedFrom). record { refusal = x .refusal; number = x .number }) (a .0) ∙ sym (append-by (s .args .file .now) (v .result) _ (v .ensures) t _), a .1 ∙ sym (file-by (s .args .file .now) (v .result) _ (v .ensures) t _))
+    (ap (λ (y : AppendedFrom). record { refusal = y .refusal; number = y .number }) (a .0) ∙ sym (append-by (s .args .file .now) (validation x) (Numbers d) (validates x) refl _), a .1 ∙ sym (file-by (s .args .file .now) (validation x) (Numbers d) (validates x) refl _))
 
 pub append-spec : {M : Type 1} → statement M
 append-spec =
     tie.close
     (tie.spec
-    (λ c κs. search needs)
-    (λ c. search needs)
     (λ c. search needs)
     (λ c κs. search needs)
     (λ c. search needs)
     returns
+    (λ c κs.
+    let p = shown (c .before .before) in
+    let a = p .admitted .admitted in
+    (p .admitted .order, a .settled .nex-high, omega (arith, a .settled .nex-room, a .lent .first)))
+    (λ c. search needs)
     append-from-requires
     (λ c. search needs)
     returns-2)

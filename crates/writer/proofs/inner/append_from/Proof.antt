@@ -30,7 +30,7 @@ handed s = handedIn (s .args .version) (s .args .index .now) (s .args .ids .now)
 
 -- the places on the way, each from the one behind it
 abbrev began : tie.After-handed-refusal → tie.Start
-began c = c .before .before .before .before .before
+began c = c .before .before .before .before .before .before
 
 abbrev from-head : tie.After-head-of → tie.Start
 from-head c = began (c .before .before)
@@ -80,7 +80,7 @@ head-of-requires c κs =
 place-requires : tie.Need-place-requires
 place-requires c κs =
     let f = fits (c .before) in
-    (from-head c .pre, omega (arith, nword c, f .few, section-words _ _ f, c .before .before .before .before, c .before .before .before))
+    (from-head c .pre .0, from-head c .pre .1, omega (arith, nword c, f .few, section-words _ _ f, c .before .before .before .before, c .before .before .before))
 
 returns-2 : tie.Need-returns-2
 returns-2 c =
@@ -98,7 +98,7 @@ none c =
     refused-none (s .args .file .now) (s .args .d) (s .args .addresses) (handed s) (passed (p .before .before)) (sym (found p) ∙ c .if2 .left)
 
 admits : (c : tie.Else2) → let s = from-place (c .before .before) in Accepted (length (s .args .file .now)) (s .args .d) (s .args .addresses) (handed s)
-admits c = let s = from-place (c .before .before) in accepted (s .args .d) (handed s) (length (s .args .file .now)) (s .args .addresses) (s .pre) (none c)
+admits c = let s = from-place (c .before .before) in accepted (s .args .d) (handed s) (length (s .args .file .now)) (s .args .addresses) (s .pre .0) (none c)
 
 stands : (c : tie.Else2) → let s = from-place (c .before .before) in c .before .before .place .result ≡ placedAt (s .args .d) (s .args .addresses) (nwordIn (handed s))
 stands c =
@@ -111,7 +111,7 @@ store-requires c κs =
     let e = c .before in
     let p = e .before .before in
     let s = from-place p in
-    storing _ (s .args .d) (s .args .addresses) _ _ (handed s) (admits e) (stands e) (headed (p .before))
+    (storing _ (s .args .d) (s .args .addresses) _ _ (handed s) (admits e) (stands e) (headed (p .before)), s .pre .1)
 
 returns-3 : tie.Need-returns-3
 returns-3 c =
