@@ -16,15 +16,15 @@ use Rattle.geometry.specs.declared.units.EntryNumber.{EntryNumber}
 use Rattle.descriptor.specs.declared.numbers.DescriptorNumbers.{DescriptorNumbers}
 use Rattle.descriptor.specs.declared.validating.Validated.{Validated}
 use Rattle.descriptor.specs.declared.validating.Validated.the-variants.{Numbers, Refused}
-use Rattle.descriptor.specs.declared.validating.Validation.{Validation}
+use Rattle.descriptor.specs.Refusal.{refusalIn}
 use Rattle.descriptor.specs.Bounds.{Admitted}
-use Rattle.descriptor.specs.Answers.{validationOf, validatedCase}
+use Rattle.descriptor.specs.Answers.{validationOf, noValidation, Validates}
 use Rattle.descriptor.proofs.Answered.{told}
 use Rattle.pieces.specs.EntryDescriptor.{sectionOf}
 use Rattle.pieces.specs.Tables.{sectionNamed}
 use Rattle.pieces.proofs.Pieces.{section-placed, data-placed}
-use Rattle.entry.specs.Opening.{enteredOf}
-use Rattle.entry.proofs.Entering.{slot-lent}
+use Rattle.entry.specs.Opening.{numberRules, enteredOf}
+use Rattle.entry.proofs.Entering.{slot-lent, entry-number, entered-refused}
 use Rattle.entry.proofs.Opened.{Known, known}
 use Rattle.handing.specs.declared.place.PartPlace.{PartPlace}
 use Rattle.handing.specs.Parts.{noPart, pieceFrom, indexPart, sectionPart, dataPart, partIn, indexWordsOf, sectionWordsOf, dataWordsOf, IsPart}
@@ -36,42 +36,51 @@ pub record Inside (bytes : ℕ) (p : PartPlace) : Type 0 where
   pub whole : (p .end - p .start) % 4 ≡ 0
   pub small : p .end ≤ 2 ^ 30
 
--- a part that a test chooses
-either : (bytes : ℕ) (b : Bool) (p q : PartPlace) → (b ≡ true → Inside bytes p) → (b ≡ false → Inside bytes q) → Inside bytes (cond b p q)
-either bytes true p q f g = f refl
-either bytes false p q f g = g refl
+-- a part that is refused is empty
+abbrev Empty : PartPlace → Type 0
+Empty p = (p .refusal ≡ 0 → ⊥) → noPart (p .refusal) ≡ p
+
+-- what holds of a part that a test chooses
+chosen : (P : PartPlace → Type 0) (b : Bool) (p q : PartPlace) → (b ≡ true → P p) → (b ≡ false → P q) → P (cond b p q)
+chosen P true p q f g = f refl
+chosen P false p q f g = g refl
 
 -- a part of an entry of admitted numbers lies within the file, refused or not
 entered : (file : List ℕ) (d : DescriptorNumbers) (addresses : List RecordNumber) (e : EntryNumber) (p : PartPlace) → Admitted (length file) d addresses
     → let x = enteredOf file d addresses e in (Known file d e x → Inside (length file) p) → Inside (length file) (cond (eqb (x .refusal) 0) p (noPart (x .refusal)))
 entered file d addresses e p a f =
     let x = enteredOf file d addresses e in
-    either (length file) (eqb (x .refusal) 0) p (noPart (x .refusal)) (λ q. f (known file d addresses e x a refl (eqb-true (x .refusal) 0 q))) (λ q. omega arith)
+    chosen (Inside (length file)) (eqb (x .refusal) 0) p (noPart (x .refusal)) (λ q. f (known file d addresses e x a refl (eqb-true (x .refusal) 0 q))) (λ q. omega arith)
 
--- so does a part of a file, whatever its validation says
-whole-inside : (file : List ℕ) (f : List RecordNumber → DescriptorNumbers → PartPlace)
-    → ((addresses : List RecordNumber) (d : DescriptorNumbers) → Admitted (length file) d addresses → Inside (length file) (f addresses d))
-    → Inside (length file) (partIn (validationOf file .numbers) (f (validationOf file .addresses)))
+-- what holds of each part of admitted numbers, and of an empty one, holds of a part of a file, whatever its validation says
+whole : (file : List ℕ) (f : List RecordNumber → DescriptorNumbers → PartPlace) (P : PartPlace → Type 0) → ((n : ℕ) → P (noPart n))
+    → ((addresses : List RecordNumber) (d : DescriptorNumbers) → Admitted (length file) d addresses → P (f addresses d))
+    → P (partIn (validationOf file .numbers) (f (validationOf file .addresses)))
 unfolding partIn
-whole-inside file f inside = by (validationOf file .numbers) refl
+whole file f P none some = by (validationOf file .numbers) refl
   where
-    by : (case : Validated) → validationOf file .numbers ≡ case → Inside (length file) (partIn case (f (validationOf file .addresses)))
-    by (Numbers d) q = inside (validationOf file .addresses) d (told file (validationOf file) d refl q .admitted .admitted)
-    by (Refused n) q = omega arith
+    by : (case : Validated) → validationOf file .numbers ≡ case → P (partIn case (f (validationOf file .addresses)))
+    by (Numbers d) q = some (validationOf file .addresses) d (told file (validationOf file) d refl q .admitted .admitted)
+    by (Refused n) q = none n
 
--- which part it is, by the validation's case
-module _ (file : List ℕ) {v : Validation} (e : v ≡ validationOf file) where
+-- which part it is, by the validation
+module _ (file : List ℕ) where
   -- a part of a file that is refused is refused with it
-  pub whole-refused : (f : DescriptorNumbers → PartPlace) {n r : ℕ} {p : PartPlace} → v .numbers ≡ Refused n → r ≡ validatedCase (v .numbers) .refusal → p ≡ noPart r
-      → p ≡ partIn (validationOf file .numbers) f
+  pub whole-refused : (f : DescriptorNumbers → PartPlace) {n : ℕ} {p : PartPlace} → validationOf file ≡ noValidation n → p ≡ noPart n → p ≡ partIn (validationOf file .numbers) f
   unfolding partIn
-  whole-refused f q t h = h ∙ rw (t, ← e, q)
+  whole-refused f q h = h ∙ rw q
 
   -- and else it is made of the file's numbers and addresses
-  pub whole-numbers : (f : List RecordNumber → DescriptorNumbers → PartPlace) {d : DescriptorNumbers} {p : PartPlace} → v .numbers ≡ Numbers d → p ≡ f (v .addresses) d
-      → p ≡ partIn (validationOf file .numbers) (f (validationOf file .addresses))
+  pub whole-numbers : (f : List RecordNumber → DescriptorNumbers → PartPlace) {d : DescriptorNumbers} {addresses : List RecordNumber} {p : PartPlace}
+      → Validates file d addresses → p ≡ f addresses d → p ≡ partIn (validationOf file .numbers) (f (validationOf file .addresses))
   unfolding partIn
-  whole-numbers f q h = h ∙ rw (← e, q)
+  whole-numbers f q h = h ∙ rw q
+
+-- a number that no entry has gives no index words
+pub index-number : (file : List ℕ) (d : DescriptorNumbers) (addresses : List RecordNumber) (e : EntryNumber)
+    → refusalIn (numberRules d e) ≡ 12 → indexPart file d addresses e ≡ noPart 12
+unfolding indexPart
+index-number file d addresses e h = rw (entered-refused file d addresses e 12 (entry-number file d addresses e h) refl)
 
 -- the three parts of a file
 module _ (file : List ℕ) (e : EntryNumber) where
@@ -79,28 +88,40 @@ module _ (file : List ℕ) (e : EntryNumber) where
   pub index-words-inside : Inside (length file) (indexWordsOf file e)
   unfolding indexPart
   index-words-inside =
-      whole-inside file (λ addresses d. indexPart file d addresses e)
+      whole file (λ addresses d. indexPart file d addresses e) (Inside (length file)) (λ n. omega arith)
       (λ addresses d a. entered file d addresses e _ a (λ k. omega (arith, slot-lent (length file) d addresses a e (k .number-low) (k .number-high), a .settled .lind-low, a .lent .high)))
 
   -- so does a section
   pub section-words-inside : (identifier : ℤ) → Inside (length file) (sectionWordsOf file e identifier)
   unfolding sectionPart
   section-words-inside identifier =
-      whole-inside file (λ addresses d. sectionPart file d addresses e identifier)
+      whole file (λ addresses d. sectionPart file d addresses e identifier) (Inside (length file)) (λ n. omega arith)
       (λ addresses d a.
       let x = enteredOf file d addresses e in
       let i = sectionNamed file (x .start) identifier 0 (x .nsec) in
-      entered file d addresses e _ a (λ k. either (length file) (ltb i (x .nsec)) (pieceFrom (x .start) (sectionOf file (x .start) (x .nsec) i)) (noPart 20)
+      entered file d addresses e _ a (λ k. chosen (Inside (length file)) (ltb i (x .nsec)) (pieceFrom (x .start) (sectionOf file (x .start) (x .nsec) i)) (noPart 20)
       (λ q. let h = section-placed file (x .start) (x .nsec) (x .nword) i (x .nsec) (ltb-true i (x .nsec) q) (k .sections-within) in omega (arith, a .lent .high)) (λ q. omega arith)))
+
+  -- and a refused one is empty
+  pub section-refused : (identifier : ℤ) {p : PartPlace} → p ≡ sectionWordsOf file e identifier → (p .refusal ≡ 0 → ⊥) → noPart (p .refusal) ≡ sectionWordsOf file e identifier
+  unfolding sectionPart
+  section-refused identifier q z =
+      rw q (whole file (λ addresses d. sectionPart file d addresses e identifier) Empty (λ n h. refl)
+      (λ addresses d a.
+      let x = enteredOf file d addresses e in
+      let i = sectionNamed file (x .start) identifier 0 (x .nsec) in
+      let piece = pieceFrom (x .start) (sectionOf file (x .start) (x .nsec) i) in
+      chosen Empty (eqb (x .refusal) 0) (cond (ltb i (x .nsec)) piece (noPart 20)) (noPart (x .refusal))
+      (λ t. chosen Empty (ltb i (x .nsec)) piece (noPart 20) (λ u h. absurd (h refl)) (λ u h. refl)) (λ t h. refl)) (rw q at z))
 
   -- and the data
   pub data-words-inside : Inside (length file) (dataWordsOf file e)
   unfolding dataPart
   data-words-inside =
-      whole-inside file (λ addresses d. dataPart file d addresses e)
+      whole file (λ addresses d. dataPart file d addresses e) (Inside (length file)) (λ n. omega arith)
       (λ addresses d a.
       let x = enteredOf file d addresses e in
-      entered file d addresses e _ a (λ k. either (length file) (eqb (x .array .words) 0) (noPart 0) (pieceFrom (x .start) (x .array)) (λ q. omega arith)
+      entered file d addresses e _ a (λ k. chosen (Inside (length file)) (eqb (x .array .words) 0) (noPart 0) (pieceFrom (x .start) (x .array)) (λ q. omega arith)
       (λ q. let h = data-placed (x .nsec) (x .nword) (x .array) (k .nword-small) (eqb-false (x .array .words) 0 q) (k .data-within) in omega (arith, a .lent .high))))
 
 -- what was handed out is the part that a place names

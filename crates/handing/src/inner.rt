@@ -2,16 +2,18 @@
 use super::place::PartPlace;
 use descriptor::DescriptorNumbers;
 use entry::inner::enter;
+use entry::inner::enter_at;
 use entry::inner::slot_position;
 use geometry::EntryNumber;
-use geometry::RecordNumber;
 use geometry::byte_offset;
+use geometry::entries_before;
 use geometry::entry_position;
 use pieces::section_at;
 use pieces::section_named;
 ghost use Prim.Native.Nat.{_+_, _^_, _<_};
 ghost use Rattle.outcome.specs.Outcome.{Answers};
-ghost use Rattle.descriptor.specs.Bounds.{AdmittedIn};
+ghost use Rattle.descriptor.specs.FirstRecord.{addressesOf};
+ghost use Rattle.descriptor.specs.Bounds.{AdmittedIn, TotalsOf};
 ghost use Rattle.handing.specs.Parts.{indexPart, sectionPart, dataPart, noPart, wordsFrom};
 
 // A part with a refusal, or with nothing in it.
@@ -42,17 +44,23 @@ fn words_from(position: u64, words: u64) -> PartPlace
 pub fn index_part(
     file: &[u8],
     d: DescriptorNumbers,
-    addresses: [RecordNumber; 16],
+    totals: &[u64],
     number: EntryNumber,
 ) -> PartPlace
-    requires { ⌜ AdmittedIn (now file) d addresses ⌝ }
-    ensures { λ r. ⌜ Answers (indexPart (now (file .entry)) d addresses number) r ⌝ }
+    requires { ⌜ AdmittedIn (now file) d (addressesOf (now file) (d .nex)) × TotalsOf d (now totals) ⌝ }
+    ensures { λ r. ⌜ Answers (indexPart (now (file .entry)) d (addressesOf (now (file .entry)) (d .nex)) number) r ⌝ }
 {
-    let entered = enter(file, d, addresses, number);
+    if number.0 < 1 {
+        return no_part(12);
+    }
+    if entries_before(d.xnext) < number.0 {
+        return no_part(12);
+    }
+    let slot = slot_position(file, d, totals, number);
+    let entered = enter_at(file, d, slot, number);
     if entered.refusal != 0 {
         return no_part(entered.refusal);
     }
-    let slot = slot_position(file.len() as u64, d, addresses, number);
     words_from(slot + 3, d.lind - 3)
 }
 
@@ -60,14 +68,14 @@ pub fn index_part(
 pub fn section_part(
     file: &[u8],
     d: DescriptorNumbers,
-    addresses: [RecordNumber; 16],
+    totals: &[u64],
     number: EntryNumber,
     identifier: i32,
 ) -> PartPlace
-    requires { ⌜ AdmittedIn (now file) d addresses ⌝ }
-    ensures { λ r. ⌜ Answers (sectionPart (now (file .entry)) d addresses number identifier) r ⌝ }
+    requires { ⌜ AdmittedIn (now file) d (addressesOf (now file) (d .nex)) × TotalsOf d (now totals) ⌝ }
+    ensures { λ r. ⌜ Answers (sectionPart (now (file .entry)) d (addressesOf (now (file .entry)) (d .nex)) number identifier) r ⌝ }
 {
-    let entered = enter(file, d, addresses, number);
+    let entered = enter(file, d, totals, number);
     if entered.refusal != 0 {
         return no_part(entered.refusal);
     }
@@ -83,13 +91,13 @@ pub fn section_part(
 pub fn data_part(
     file: &[u8],
     d: DescriptorNumbers,
-    addresses: [RecordNumber; 16],
+    totals: &[u64],
     number: EntryNumber,
 ) -> PartPlace
-    requires { ⌜ AdmittedIn (now file) d addresses ⌝ }
-    ensures { λ r. ⌜ Answers (dataPart (now (file .entry)) d addresses number) r ⌝ }
+    requires { ⌜ AdmittedIn (now file) d (addressesOf (now file) (d .nex)) × TotalsOf d (now totals) ⌝ }
+    ensures { λ r. ⌜ Answers (dataPart (now (file .entry)) d (addressesOf (now (file .entry)) (d .nex)) number) r ⌝ }
 {
-    let entered = enter(file, d, addresses, number);
+    let entered = enter(file, d, totals, number);
     if entered.refusal != 0 {
         return no_part(entered.refusal);
     }

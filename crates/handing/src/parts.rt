@@ -4,9 +4,7 @@ use super::inner::index_part;
 use super::inner::no_part;
 use super::inner::section_part;
 use super::place::PartPlace;
-use descriptor::Validated;
-use descriptor::refusal_of;
-use descriptor::validate;
+use descriptor::inner::admit;
 use geometry::EntryNumber;
 ghost use Rattle.outcome.specs.Outcome.{Answers};
 ghost use Rattle.handing.specs.Parts.{indexWordsOf, sectionWordsOf, dataWordsOf, IsPart};
@@ -16,13 +14,13 @@ ghost use Rattle.handing.specs.Parts.{indexWordsOf, sectionWordsOf, data
 pub fn index_words_place(file: &[u8], number: EntryNumber) -> PartPlace
     ensures { λ r. ⌜ Answers (indexWordsOf (now (file .entry)) number) r ⌝ }
 {
-    let validation = validate(file);
-    let case = validation.numbers;
-    let Validated::Numbers(d) = case else {
-        return no_part(refusal_of(case));
-    };
-    let addresses = validation.addresses;
-    index_part(file, d, addresses, number)
+    let mut totals = [0u64; 16];
+    let admitted = admit(file, &mut totals);
+    if admitted.refusal != 0 {
+        return no_part(admitted.refusal);
+    }
+    let d = admitted.numbers;
+    index_part(file, d, &totals, number)
 }
 
 // The application's words of an entry's index.
@@ -47,26 +45,23 @@ pub fn index_words_refusal(file: &[u8], number: EntryNumber) -> u32
 pub fn section_place(file: &[u8], number: EntryNumber, identifier: i32) -> PartPlace
     ensures { λ r. ⌜ Answers (sectionWordsOf (now (file .entry)) number identifier) r ⌝ }
 {
-    let validation = validate(file);
-    let case = validation.numbers;
-    let Validated::Numbers(d) = case else {
-        return no_part(refusal_of(case));
-    };
-    let addresses = validation.addresses;
-    section_part(file, d, addresses, number, identifier)
+    let mut totals = [0u64; 16];
+    let admitted = admit(file, &mut totals);
+    if admitted.refusal != 0 {
+        return no_part(admitted.refusal);
+    }
+    let d = admitted.numbers;
+    section_part(file, d, &totals, number, identifier)
 }
 
 // The first section of an entry that has an identifier.
 pub fn section<'a>(file: &'a [u8], number: EntryNumber, identifier: i32) -> &'a [u8]
     ensures { λ r. ⌜ IsPart (file .entry) (sectionWordsOf (now (file .entry)) number identifier) r ⌝ }
 {
-    let validation = validate(file);
-    let case = validation.numbers;
-    let Validated::Numbers(d) = case else {
+    let place = section_place(file, number, identifier);
+    if place.refusal != 0 {
         return &file[0..0];
-    };
-    let addresses = validation.addresses;
-    let place = section_part(file, d, addresses, number, identifier);
+    }
     let start = place.start;
     let end = place.end;
     &file[start..end]
@@ -83,13 +78,13 @@ pub fn section_refusal(file: &[u8], number: EntryNumber, identifier: i32) -> u32
 pub fn data_array_place(file: &[u8], number: EntryNumber) -> PartPlace
     ensures { λ r. ⌜ Answers (dataWordsOf (now (file .entry)) number) r ⌝ }
 {
-    let validation = validate(file);
-    let case = validation.numbers;
-    let Validated::Numbers(d) = case else {
-        return no_part(refusal_of(case));
-    };
-    let addresses = validation.addresses;
-    data_part(file, d, addresses, number)
+    let mut totals = [0u64; 16];
+    let admitted = admit(file, &mut totals);
+    if admitted.refusal != 0 {
+        return no_part(admitted.refusal);
+    }
+    let d = admitted.numbers;
+    data_part(file, d, &totals, number)
 }
 
 // The data of an entry.

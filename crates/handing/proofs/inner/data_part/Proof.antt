@@ -10,8 +10,8 @@ use Rattle.handing.proofs.inner.data_part.Statement.{statement}
 use Rattle.handing.proofs.inner.data_part.Tie as tie
 
 -- the entry opened
-opened : (c : tie.Else1) → let a = c .before .before .before .before .args in Known (a .file .now) (a .d) (a .number) (c .before .before .enter .result)
-opened c = known _ _ _ _ _ (c .before .before .before .before .pre .admitted) (c .before .before .enter .ensures) (c .if1 .left)
+opened : (c : tie.Else1) → let a = c .before .before .before .before .before .args in Known (a .file .now) (a .d) (a .number) (c .before .before .enter .result)
+opened c = known _ _ _ _ _ (c .before .before .before .before .before .pre .0 .admitted) (c .before .before .enter .ensures) (c .if1 .left)
 
 -- and its data, where there is any, lies within it
 placed : (c : tie.Else2) → let x = c .before .before .before .before .before .enter .result in Placed (x .nsec) (x .nword) (x .array)

@@ -13,18 +13,18 @@ use Rattle.handing.proofs.inner.section_part.Statement.{statement}
 use Rattle.handing.proofs.inner.section_part.Tie as tie
 
 -- the entry opened
-opened : (c : tie.Else1) → let a = c .before .before .before .before .args in Known (a .file .now) (a .d) (a .number) (c .before .before .enter .result)
-opened c = known _ _ _ _ _ (c .before .before .before .before .pre .admitted) (c .before .before .enter .ensures) (c .if1 .left)
+opened : (c : tie.Else1) → let a = c .before .before .before .before .before .args in Known (a .file .now) (a .d) (a .number) (c .before .before .enter .result)
+opened c = known _ _ _ _ _ (c .before .before .before .before .before .pre .0 .admitted) (c .before .before .enter .ensures) (c .if1 .left)
 
 -- the order handed on is the file's
-order : (c : tie.Else1) → let a = c .before .before .before .before .args in a .d .order ≡ byteOrderOf (a .file .now)
-order c = c .before .before .before .before .pre .order
+order : (c : tie.Else1) → let a = c .before .before .before .before .before .args in a .d .order ≡ byteOrderOf (a .file .now)
+order c = c .before .before .before .before .before .pre .0 .order
 
 -- which section has the identifier
-found : (c : tie.After-section-named) → let a = c .before .before .before .before .before .args in
+found : (c : tie.After-section-named) → let a = c .before .before .before .before .before .before .args in
     let x = c .before .before .before .enter .result in
     c .section-named .result ≡ sectionNamed (a .file .now) (x .start) (a .identifier) 0 (x .nsec)
-found c = rw (toZ-ofZ (c .before .before .before .before .before .fits .identifier)) at (c .section-named .ensures)
+found c = rw (toZ-ofZ (c .before .before .before .before .before .before .fits .identifier)) at (c .section-named .ensures)
 
 -- and it lies within the entry
 placed : (c : tie.After-section-at) → let n = c .before .before .before in let x = n .before .before .before .enter .result in Placed (x .nsec) (x .nword) (c .section-at .result)

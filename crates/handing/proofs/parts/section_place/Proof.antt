@@ -1,24 +1,32 @@
 -- `handing::parts::section_place` meets its contract, by the validation's case. Assumes nothing.
+use denote.Ref.{now}
 use borrow.Author.Needs.{needs}
 use mir.Facts.{toZ-ofZ}
-use Rattle.descriptor.proofs.Answered.{told}
+use Rattle.descriptor.proofs.Answered.{Admits, case-told, case-left}
 use Rattle.handing.specs.Parts.{sectionPart}
 use Rattle.handing.proofs.Handing.{whole-refused, whole-numbers}
 use Rattle.handing.proofs.parts.section_place.Statement.{statement}
 use Rattle.handing.proofs.parts.section_place.Tie as tie
 
+-- the place behind the call that validates, and what it shows where it does not refuse
+abbrev called : tie.Else1 → tie.After-admit
+called c = c .before .before .before
+
+shown : (c : tie.Else1) → let a = called c in Admits (now (a .before .before .before .args .file)) (a .admit .result) (a .admit .last .1 .0)
+shown c = let a = called c .admit in case-told _ (a .result) (a .ensures .0) (a .ensures .1) (c .if1 .left)
+
 pub section-place-spec : {M : Type 1} → statement M
 section-place-spec =
     tie.close
     (tie.spec
-    (λ c κs. search needs)
-    (λ c. search needs)
     (λ c. search needs)
     (λ c κs. search needs)
     (λ c κs. search needs)
-    (λ c. whole-refused _ (c .before .before .before .before .validate .ensures) _ (c .before .before .enum-told .given .1) (c .before .refusal-of .ensures) (c .no-part .ensures))
-    (λ c κs. told _ _ _ (c .before .before .before .before .validate .ensures) (c .before .before .case .given .1) .admitted)
+    (λ c. let a = c .before .before .before .before .admit in whole-refused _ _ (case-left _ (a .result) (a .ensures .0) (c .before .if1 .taken)) (c .no-part .ensures))
+    (λ c. search needs)
+    (λ c κs. let p = shown (c .before .before) in (p .admitted, p .table))
     (λ c.
-    let k = c .before .before .before in
-    let a = k .before .before .before .before .args in
-    whole-numbers _ (k .before .before .validate .ensures) (λ addresses d. sectionPart (a .file .now) d addresses (a .number) (a .identifier)) (k .case .given .1) (rw (toZ-ofZ (k .before .before .before .before .fits .identifier)) at (c .section-part .ensures))))
+    let e = c .before .before .before in
+    let s = called e .before .before .before in
+    let a = s .args in
+    whole-numbers _ (λ addresses d. sectionPart (now (a .file)) d addresses (a .number) (a .identifier)) (shown e .validation) (rw (toZ-ofZ (s .fits .identifier)) at (c .section-part .ensures))))
