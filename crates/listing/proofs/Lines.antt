@@ -9,6 +9,7 @@ use lib.ListN.{length, length-append}
 use Rattle.geometry.specs.declared.units.RecordNumber.{RecordNumber}
 use Rattle.geometry.specs.Units.{entriesBefore}
 use Rattle.descriptor.specs.declared.numbers.DescriptorNumbers.{DescriptorNumbers}
+use Rattle.descriptor.specs.FirstRecord.{addressesOf}
 use Rattle.entry.specs.declared.entered.Entered.{Entered}
 use Rattle.entry.specs.Opening.{enteredOf}
 use Rattle.listing.specs.Text.{space, newline, decimalOf, fieldOf, joined}
@@ -97,3 +98,7 @@ module _ (file : List ℕ) (d : DescriptorNumbers) (addresses : List RecordNumbe
   -- there is a row for each entry
   pub rows-count : length (rowsOf file d addresses) ≡ entriesBefore (d .xnext)
   rows-count = count-from 1 (entriesBefore (d .xnext))
+
+-- the rows from an entry on, by the addresses that the file has
+abbrev pub restOf : List ℕ → DescriptorNumbers → ℕ → ℕ → List ℕ
+restOf file d = rest file d (addressesOf file (d .nex))

@@ -9,9 +9,7 @@ use lib.ListN.{length}
 use Rattle.image.specs.Image.{splice}
 use Rattle.geometry.specs.declared.units.RecordNumber.{RecordNumber}
 use Rattle.descriptor.specs.declared.numbers.DescriptorNumbers.{DescriptorNumbers}
-use Rattle.descriptor.specs.declared.validating.Validated.{Validated}
-use Rattle.descriptor.specs.declared.validating.Validation.{Validation}
-use Rattle.descriptor.specs.Answers.{validationOf}
+use Rattle.descriptor.specs.Answers.{validationOf, noValidation, Validates}
 use Rattle.listing.specs.Text.{joined}
 use Rattle.listing.specs.Buffer.{countIn, filledBy, HandsOver}
 use Rattle.listing.specs.Listing.{header, refusedOf, rowsOf, refusedFile, entriesListing, listingIn, listingOf, overLimit, outputOf}
@@ -49,11 +47,15 @@ pub length-refused-file : (n : ℕ) → length (refusedFile n) ≡ 4 + length (r
 unfolding refusedFile
 length-refused-file n = omega arith
 
--- the listing, by the validation's case
-pub listing-by : (file : List ℕ) (v : Validation) (case : Validated) → v ≡ validationOf file → v .numbers ≡ case
-    → listingOf file ≡ listingIn file case (v .addresses)
-unfolding listingOf
-listing-by file v case e q = rw (← e, ← q)
+-- the listing of a file that is refused
+pub listing-refused : (file : List ℕ) {n : ℕ} → validationOf file ≡ noValidation n → listingOf file ≡ refusedFile n
+unfolding listingOf listingIn
+listing-refused file q = rw q
+
+-- the listing of a file that is not
+pub listing-numbers : (file : List ℕ) {d : DescriptorNumbers} {addresses : List RecordNumber} → Validates file d addresses → listingOf file ≡ entriesListing file d addresses
+unfolding listingOf listingIn
+listing-numbers file q = rw q
 
 -- the output of an input within the limit is its listing
 pub output-within : (input : List ℕ) → length input ≤ 65536 → outputOf input ≡ listingOf input

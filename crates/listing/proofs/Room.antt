@@ -29,11 +29,11 @@ use Rattle.pieces.proofs.Pieces.{data-placed}
 use Rattle.entry.specs.Opening.{slotPositionOf, placeStored, entryRefusal, enteredAt, enteredOf}
 use Rattle.entry.proofs.Entering.{entry-opens, entered-numbers, entered-refusal}
 use Rattle.listing.specs.Text.{space, newline}
-use Rattle.listing.specs.Listing.{openedRow, rowOf, listingIn, overLimit, outputOf}
+use Rattle.listing.specs.Listing.{openedRow, rowOf, listingIn, listingOf, overLimit, outputOf}
 use Rattle.listing.proofs.Areas.{most-entries}
 use Rattle.listing.proofs.Decimal.{length-small, field-short, field-small}
 use Rattle.listing.proofs.Lines.{length-refused, length-opened, length-refused-row, row-opened, row-refused, length-rest}
-use Rattle.listing.proofs.Listings.{length-entries, length-refused-file, listing-by, output-within, output-over}
+use Rattle.listing.proofs.Listings.{length-entries, length-refused-file, output-within, output-over}
 
 -- data that lies within an entry has no more words than the entry
 data-words : (nsec nword : ℕ) (p : Piece) → nword < 2 ^ 32 → dataWithin nsec nword p ≡ true → p .words ≤ nword
@@ -89,11 +89,11 @@ case-short file (Numbers d) addresses f h =
 
 -- the output of any input fits 196,608 bytes
 pub room : (input : List ℕ) → length (outputOf input) ≤ 196608
-unfolding overLimit
+unfolding overLimit listingOf
 room input =
     let v = validationOf input in
     elim (decLe (length input) 65536) [
-      | yes g ↦ rw (output-within input g, listing-by input v (v .numbers) refl refl) (case-short input (v .numbers) (v .addresses) (λ d q. told input v d refl q .admitted .admitted) g)
+      | yes g ↦ rw (output-within input g) (case-short input (v .numbers) (v .addresses) (λ d q. told input v d refl q .admitted .admitted) g)
       | no g ↦ rw (output-over input (lt-of-not-le g)) (omega arith)
     ]
 

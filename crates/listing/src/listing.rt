@@ -1,9 +1,7 @@
 // The listing of a file, and what the listing program prints of its input.
 use super::entries::list_entries;
 use super::rows::put_refused;
-use descriptor::Validated;
-use descriptor::refusal_of;
-use descriptor::validate;
+use descriptor::inner::admit;
 ghost use Rattle.listing.specs.Buffer.{HandsOver};
 ghost use Rattle.listing.specs.Listing.{refusedFile, Lists, Prints};
 
@@ -31,13 +29,13 @@ fn list_refused(refusal: u32, out: &mut [u8]) -> usize
 pub fn list_file(file: &[u8], out: &mut [u8]) -> usize
     ensures { λ r. ⌜ Lists (now (file .entry)) (now (out .entry)) r (now (out .exit)) ⌝ }
 {
-    let validation = validate(file);
-    let case = validation.numbers;
-    let Validated::Numbers(d) = case else {
-        return list_refused(refusal_of(case), out);
-    };
-    let addresses = validation.addresses;
-    list_entries(file, d, addresses, out)
+    let mut totals = [0u64; 16];
+    let admitted = admit(file, &mut totals);
+    if admitted.refusal != 0 {
+        return list_refused(admitted.refusal, out);
+    }
+    let d = admitted.numbers;
+    list_entries(file, d, &totals, out)
 }
 
 // Writes what the program prints of its input, and answers how many bytes that is.

@@ -6,39 +6,40 @@ use mathlib.Core.Path.{_≡_, refl}
 use native.Mathlib.Omega.{arith}
 use denote.Ref.{now}
 use lib.ListN.{length}
+use Rattle.descriptor.specs.FirstRecord.{addressesOf}
 use Rattle.listing.specs.Listing.{rowsFrom}
-use Rattle.listing.proofs.Lines.{rest, rest-next, length-next}
+use Rattle.listing.proofs.Lines.{restOf, rest-next, length-next}
 use Rattle.listing.proofs.Laid.{Laid, laid-none, laid-on}
 use Rattle.listing.proofs.entries.put_rows.Statement.{statement}
 use Rattle.listing.proofs.entries.put_rows.Tie as tie
 
 abbrev Inv-loop : tie.InvT-loop
-Inv-loop file d addresses out₀ at entries next₀ written₀ out next written =
+Inv-loop file d totals out₀ at entries next₀ written₀ out next written =
     (written ≤ entries) × (length out ≡ length out₀)
-    × ((behind : ℕ) (after : List ℕ) → Laid out next (rest file d addresses (written + 1) (entries - written)) behind after
-    → Laid out₀ at (rest file d addresses 1 entries) behind after)
+    × ((behind : ℕ) (after : List ℕ) → Laid out next (restOf file d (written + 1) (entries - written)) behind after
+    → Laid out₀ at (restOf file d 1 entries) behind after)
 
 abbrev μ-loop : tie.MeasureT-loop
-μ-loop file d addresses out₀ at entries next₀ written₀ out next written = entries - written
+μ-loop file d totals out₀ at entries next₀ written₀ out next written = entries - written
 
 -- the offset of the next row and the length of the rows that are left make up the length of all
-left : (c : tie.At-loop Inv-loop μ-loop) → let a = c .before .before .before .before .args in
-    c .loop .next + length (rest (a .file .now) (a .d) (a .addresses) (c .loop .written + 1) (c .before .entries-before .result - c .loop .written))
-    ≡ a .at + length (rest (a .file .now) (a .d) (a .addresses) 1 (c .before .entries-before .result))
+left : (c : tie.At-loop Inv-loop μ-loop) → let a = c .before .before .before .before .before .args in
+    c .loop .next + length (restOf (a .file .now) (a .d) (c .loop .written + 1) (c .before .entries-before .result - c .loop .written))
+    ≡ a .at + length (restOf (a .file .now) (a .d) 1 (c .before .entries-before .result))
 left c = c .loop .inv .2 _ _ (refl, refl) .0
 
 put-row-requires : tie.Need-put-row-requires Inv-loop μ-loop
 put-row-requires c κs =
     let l = c .before .before .before in
-    let a = l .before .before .before .before .args in
+    let s = l .before .before .before .before .before in
     let n = l .before .entries-before in
     let x = c .before .enter in
     omega (
       arith,
-      length-next (a .file .now) (a .d) (a .addresses) (l .loop .written) (n .result) (x .result) (omega arith) (x .ensures),
+      length-next (s .args .file .now) (s .args .d) (addressesOf (s .args .file .now) (s .args .d .nex)) (l .loop .written) (n .result) (x .result) (omega arith) (x .ensures),
       l .loop .inv .1,
       left l,
-      rw (← (n .ensures)) at (l .before .before .before .before .pre .1),
+      rw (← (n .ensures)) at (s .pre .2),
     )
 
 loop-again : tie.Need-loop-again Inv-loop μ-loop
@@ -63,10 +64,10 @@ put-rows-spec =
     (tie.spec
     Inv-loop
     μ-loop
-    (λ c κs. c .before .before .pre .0 .admitted .counted)
+    (λ c κs. c .before .before .before .pre .0 .admitted .counted)
     (λ c. let q : c .entries-before .result - 0 ≡ c .entries-before .result = omega arith in (omega arith, refl, rw q (λ b o w. w)))
     (λ c. omega arith)
-    (λ c κs. c .before .before .before .before .before .pre .0)
+    (λ c κs. let p = c .before .before .before .before .before .before .pre in (p .0, p .1))
     put-row-requires
     (λ c. omega arith) (λ c. omega arith)
     loop-again

@@ -5,23 +5,24 @@ use mathlib.Core.Path.{_≡_}
 use native.Mathlib.Omega.{arith}
 use borrow.Author.Needs.{needs}
 use lib.ListN.{length}
+use Rattle.descriptor.specs.FirstRecord.{addressesOf}
 use Rattle.listing.specs.Listing.{rowsFrom}
-use Rattle.listing.proofs.Lines.{rest, length-next, rows-short}
+use Rattle.listing.proofs.Lines.{restOf, length-next, rows-short}
 use Rattle.listing.proofs.Areas.{entries-room}
 use Rattle.listing.proofs.entries.rows_length.Statement.{statement}
 use Rattle.listing.proofs.entries.rows_length.Tie as tie
 
 abbrev Inv-loop : tie.InvT-loop
-Inv-loop file d addresses entries sum₀ measured₀ sum measured =
-    (measured ≤ entries) × (sum + length (rest file d addresses (measured + 1) (entries - measured)) ≡ length (rest file d addresses 1 entries))
+Inv-loop file d totals entries sum₀ measured₀ sum measured =
+    (measured ≤ entries) × (sum + length (restOf file d (measured + 1) (entries - measured)) ≡ length (restOf file d 1 entries))
 
 abbrev μ-loop : tie.MeasureT-loop
-μ-loop file d addresses entries sum₀ measured₀ sum measured = entries - measured
+μ-loop file d totals entries sum₀ measured₀ sum measured = entries - measured
 
 -- with the row that was measured the sum and the length of the rows that are left make up the length of all
-more : (c : tie.After-row-length Inv-loop μ-loop) → let l = c .before .before .before in let a = l .before .before .before .args in let n = l .before .entries-before .result in
-    l .loop .sum + c .row-length .result + length (rest (a .file .now) (a .d) (a .addresses) (l .loop .measured + 1 + 1) (n - (l .loop .measured + 1)))
-    ≡ length (rest (a .file .now) (a .d) (a .addresses) 1 n)
+more : (c : tie.After-row-length Inv-loop μ-loop) → let l = c .before .before .before in let a = l .before .before .before .before .args in let n = l .before .entries-before .result in
+    l .loop .sum + c .row-length .result + length (restOf (a .file .now) (a .d) (l .loop .measured + 1 + 1) (n - (l .loop .measured + 1)))
+    ≡ length (restOf (a .file .now) (a .d) 1 n)
 more c =
     let l = c .before .before .before in
     let x = c .before .enter in
@@ -30,10 +31,12 @@ more c =
 add-sum : tie.Need-add-sum Inv-loop μ-loop
 add-sum c =
     let l = c .before .before .before in
-    let s = l .before .before .before in
+    let s = l .before .before .before .before in
     let n = l .before .entries-before in
-    let all = rw (← (n .ensures)) at (rows-short (s .args .file .now) (s .args .d) (s .args .addresses)) in
-    omega (arith, more c, all, entries-room (length (s .args .file .now)) (s .args .d) (s .args .addresses) (s .pre .admitted), n .ensures, s .pre .admitted .lent .high)
+    let a = s .pre .0 .admitted in
+    let all = rw (← (n .ensures)) at (rows-short (s .args .file .now) (s .args .d) (addressesOf (s .args .file .now) (s .args .d .nex))) in
+    let slots = entries-room _ _ _ a in
+    omega (arith, more c, all, slots, n .ensures, a .lent .high)
 
 returns : tie.Need-returns Inv-loop μ-loop
 unfolding rowsFrom
@@ -49,10 +52,10 @@ rows-length-spec =
     (tie.spec
     Inv-loop
     μ-loop
-    (λ c κs. c .before .pre .admitted .counted)
+    (λ c κs. c .before .before .pre .0 .admitted .counted)
     (λ c. let q : c .entries-before .result - 0 ≡ c .entries-before .result = omega arith in (omega arith, rw q (omega arith)))
     (λ c. omega arith)
-    (λ c κs. c .before .before .before .before .pre)
+    (λ c κs. c .before .before .before .before .before .pre)
     (λ c κs. search needs)
     add-sum
     (λ c. omega arith) (λ c. omega arith)
