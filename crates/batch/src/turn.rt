@@ -9,7 +9,7 @@ use geometry::totals_of;
 use writer::inner::AppendedFrom;
 use writer::inner::append_from;
 ghost use lib.ListN.{length};
-ghost use Rattle.descriptor.specs.Bounds.{Admitted};
+ghost use Rattle.descriptor.specs.Bounds.{Admitted, TotalsOf};
 ghost use Rattle.writer.specs.Answers.{AppendsFrom};
 ghost use Rattle.batch.specs.Batch.{laidIn, laid};
 ghost use Rattle.batch.specs.Cursor.{past, entryBetween, Reached};
@@ -24,10 +24,11 @@ pub struct Turn {
     pub at: Cursor,
 }
 
-// Appends the entry that lies between two cursors to a file of admitted numbers.
+// Appends the entry that lies between two cursors to a file of admitted numbers and these totals.
 fn append_between(
     d: DescriptorNumbers,
     addresses: [RecordNumber; 16],
+    totals: &[u64],
     file: &mut [u8],
     version: i32,
     at: Cursor,
@@ -38,7 +39,7 @@ fn append_between(
     sections: &[u8],
     values: &[u8],
 ) -> AppendedFrom
-    requires { ⌜ Admitted (length (now file)) d addresses × Reached at next (laidIn (now index) (now ids) (now lengths) (now sections) (now values)) ⌝ }
+    requires { ⌜ Admitted (length (now file)) d addresses × TotalsOf d (now totals) × Reached at next (laidIn (now index) (now ids) (now lengths) (now sections) (now values)) ⌝ }
     ensures { λ r. ⌜ AppendsFrom (now (file .entry)) d addresses (entryBetween version at next (laid index ids lengths sections values)) r (now (file .exit)) ⌝ }
 {
     let index_at = at.index;
@@ -51,11 +52,10 @@ fn append_between(
     let sections_end = next.sections;
     let values_at = at.values;
     let values_end = next.values;
-    let totals = totals_of(Growth::new(d.lex1, d.gex), d.nex);
     append_from(
         d,
         addresses,
-        &totals,
+        totals,
         file,
         version,
         &index[index_at..index_end],
@@ -85,9 +85,11 @@ pub(crate) fn append_next(
     let areas = turn.areas;
     let at = turn.at;
     let next = past_entry(at, counts);
+    let totals = totals_of(Growth::new(numbers.lex1, numbers.gex), numbers.nex);
     let appended = append_between(
         numbers,
         areas,
+        &totals,
         file,
         version,
         at,

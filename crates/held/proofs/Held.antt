@@ -21,6 +21,7 @@ use Rattle.descriptor.proofs.Refusals.{all-hold}
 use Rattle.descriptor.proofs.Answered.{answer-numbers, answer-refused}
 use Rattle.held.specs.declared.answers.OpenFile.{OpenFile}
 use Rattle.held.specs.declared.answers.OpenFileAnswer.{OpenFileAnswer}
+use Rattle.geometry.specs.Totals.{totalsOf}
 use Rattle.held.specs.Record.{openFileWith, openFileIn, openFileOf, TrueOf}
 use Rattle.held.specs.Rules.{fieldsOf, heldRules, heldRefusal}
 use Rattle.held.proofs.Tables.{records-equal}

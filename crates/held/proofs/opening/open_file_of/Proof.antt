@@ -1,43 +1,51 @@
+-- `held::opening::open_file_of` meets its contract: it validates, and makes the record of what that gives. Assumes nothing.
+use mathlib.Core.Path.{_≡_, refl, sym, _∙_}
+use native.Mathlib.Omega.{arith}
+use denote.Ref.{now}
 use borrow.Author.Needs.{needs}
+use Rattle.descriptor.specs.declared.validating.Validated.the-variants.{Numbers, Refused}
+use Rattle.descriptor.specs.Answers.{noValidation}
+use Rattle.descriptor.proofs.Answered.{Admits, case-told, case-left}
+use Rattle.held.specs.Record.{openFileIn}
+use Rattle.held.proofs.Held.{record-by}
 use Rattle.held.proofs.opening.open_file_of.Statement.{statement}
 use Rattle.held.proofs.opening.open_file_of.Tie as tie
-use Rattle.held.proofs.opening.open_file_of.Reads as reads
-use Rattle.held.proofs.opening.open_file_of.Lts as lts
-use Rattle.descriptor.proofs.inner.addresses_of.Reads as addresses-of-reads
-use Rattle.descriptor.proofs.inner.admit.Reads as admit-reads
-use Rattle.held.proofs.opening.no_open_file.Reads as no-open-file-reads
 
--- src/opening.rt:29:32
-slice-aggregate-admit : tie.Need-slice-aggregate-admit
-slice-aggregate-admit c = search needs
+-- the place behind the call that validates, and what it shows where it does not refuse
+abbrev called : tie.Else1 → tie.After-admit
+called c = c .before .before .before
 
--- src/opening.rt:29:9
-admit-requires : tie.Need-admit-requires
-admit-requires c κs = search needs
+shown : (c : tie.Else1) → let a = called c in Admits (now (a .before .before .before .args .file)) (a .admit .result) (a .admit .last .1 .0)
+shown c = let a = called c .admit in case-told _ (a .result) (a .ensures .0) (a .ensures .1) (c .if1 .left)
 
--- src/opening.rt:31:9
-no-open-file-requires : tie.Need-no-open-file-requires
-no-open-file-requires c κs = search needs
-
--- src/opening.rt:31:9
 returns : tie.Need-returns
-returns c = ?
+unfolding openFileIn
+returns c =
+    let a = c .before .before .before .before in
+    let n = a .admit .result .refusal in
+    c .no-open-file .ensures
+    ∙ sym (record-by (now (a .before .before .before .args .file)) (noValidation n) (Refused n) (sym (case-left _ (a .admit .result) (a .admit .ensures .0) (c .before .if1 .taken))) refl)
 
--- src/opening.rt:34:9
-addresses-of-requires : tie.Need-addresses-of-requires
-addresses-of-requires c κs = ?
-
--- src/opening.rt:25:1
 returns-2 : tie.Need-returns-2
-returns-2 c = ?
+unfolding openFileIn
+returns-2 c =
+    let e = c .before .before in
+    let a = called e in
+    let d = a .admit .result .numbers in
+    let p = shown e in
+    (λ i. record { refusal = 0; file = record { numbers = d; addresses = c .addresses-of .ensures i; totals = p .table i } })
+    ∙ sym (record-by (now (a .before .before .before .args .file)) _ (Numbers d) (sym (p .validation)) refl)
 
 pub open-file-of-spec : {M : Type 1} → statement M
 open-file-of-spec =
     tie.close
     (tie.spec
-    slice-aggregate-admit
-    admit-requires
-    no-open-file-requires
+    (λ c. search needs)
+    (λ c κs. search needs)
+    (λ c κs. search needs)
     returns
-    addresses-of-requires
+    (λ c κs.
+    let p = shown (c .before) in
+    let a = p .admitted .admitted in
+    (p .admitted .order, a .settled .nex-high, omega (arith, a .settled .nex-room, a .lent .first)))
     returns-2)
