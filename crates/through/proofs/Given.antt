@@ -7,7 +7,8 @@ use Rattle.geometry.specs.declared.units.RecordNumber.{RecordNumber}
 use Rattle.descriptor.specs.declared.numbers.DescriptorNumbers.{DescriptorNumbers}
 use Rattle.descriptor.specs.declared.validating.Validation.{Validation}
 use Rattle.descriptor.specs.Answers.{validationOf, Validates}
-use Rattle.descriptor.specs.Bounds.{AdmittedIn}
+use Rattle.descriptor.specs.FirstRecord.{addressesOf}
+use Rattle.descriptor.specs.Bounds.{AdmittedIn, TotalsOf}
 use Rattle.descriptor.proofs.Answered.{told}
 use Rattle.handing.specs.declared.place.PartPlace.{PartPlace}
 use Rattle.handing.specs.Parts.{sectionPart, partIn}
@@ -66,6 +67,20 @@ module _ (file : List ℕ) (held : OpenFile) (z : heldRefusal file held ≡ 0) w
       let t = told file (validationOf file) d refl (ap (λ (v : Validation). v .numbers) validates) in
       rw (ap (λ (v : Validation). v .addresses) validates) at (t .admitted)
 
+  -- the addresses are those that the file has
+  addresses-there : addresses ≡ addressesOf file (d .nex)
+  addresses-there =
+      let t = told file (validationOf file) d refl (ap (λ (v : Validation). v .numbers) validates) in
+      ap (λ (v : Validation). v .addresses) (sym validates) ∙ t .addresses ∙ ap (λ (x : DescriptorNumbers). addressesOf file (x .nex)) (sym (t .numbers))
+
+  -- so the numbers are admitted with these
+  pub admitted-there : AdmittedIn file d (addressesOf file (d .nex))
+  admitted-there = subst (AdmittedIn file d) addresses-there admitted
+
+  -- and the totals are those of the extensions in use
+  pub totals-there : TotalsOf d (held .totals)
+  totals-there = ap (λ (x : OpenFile). x .totals) (true-there .same ∙ sym (record-then file d addresses validates))
+
   -- ---- an append from them
 
   module _ (h : Handed) (r : AppendedFrom) (last : List ℕ) (m : AppendsFrom file d addresses h r last) where
@@ -111,9 +126,9 @@ module _ (file : List ℕ) (held : OpenFile) (z : heldRefusal file held ≡ 0) w
   -- ---- an update at the place that they give
 
   -- the section that they lead to is the one that is named
-  pub section-named : (u : Update) → sectionPart file d addresses (u .number) (u .identifier) ≡ placeNamed file u
+  pub section-named : (u : Update) → sectionPart file d (addressesOf file (d .nex)) (u .number) (u .identifier) ≡ placeNamed file u
   unfolding partIn
-  section-named u = rw validates
+  section-named u = ap (λ (a : List RecordNumber). sectionPart file d a (u .number) (u .identifier)) (sym addresses-there) ∙ rw validates
 
   module _ (u : Update) (p : PartPlace) (there : p ≡ placeNamed file u) where
     -- an update may write there

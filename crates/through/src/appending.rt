@@ -40,9 +40,11 @@ pub fn append_through(
     }
     let d = held.numbers;
     let addresses = held.addresses;
+    let totals = held.totals;
     let appended = append_from(
         d,
         addresses,
+        &totals,
         file,
         version,
         index,

@@ -32,8 +32,8 @@ pub fn update_through(
         };
     }
     let d = held.numbers;
-    let addresses = held.addresses;
-    let place = section_part(file, d, addresses, number, identifier);
+    let totals = held.totals;
+    let place = section_part(file, d, &totals, number, identifier);
     UpdatedThrough {
         held,
         answer: update_at(file, place, content),

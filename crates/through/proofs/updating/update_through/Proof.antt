@@ -5,7 +5,7 @@ use borrow.Author.Needs.{needs}
 use Rattle.update.specs.Answers.{Update, updateIn, placeNamed}
 use Rattle.held.specs.Rules.{heldRefusal}
 use Rattle.through.proofs.Outcomes.{update-refused}
-use Rattle.through.proofs.Given.{given-staying, admitted, section-named, place-writable, update-given}
+use Rattle.through.proofs.Given.{given-staying, admitted-there, totals-there, section-named, place-writable, update-given}
 use Rattle.through.proofs.updating.update_through.Statement.{statement}
 use Rattle.through.proofs.updating.update_through.Tie as tie
 
@@ -22,8 +22,8 @@ returns c =
     given-staying (update-refused (s .args .file .now) (s .args .held) (c .before .held-refusal .ensures) (c .if1 .taken) (over s))
 
 -- where 27 is not given
-abbrev passed : tie.After-section-part-arg → tie.Else1
-passed c = c .before .before .before
+abbrev passed : tie.After-totals2 → tie.Else1
+passed c = let p : tie.After-section-part-arg = c .before in p .before .before .before
 
 true-there : (c : tie.Else1) → let s = began (c .before) in heldRefusal (s .args .file .now) (s .args .held) ≡ 0
 true-there c = sym (c .before .held-refusal .ensures) ∙ c .if1 .left
@@ -32,7 +32,7 @@ section-part-requires : tie.Need-section-part-requires
 section-part-requires c κs =
     let p = passed c in
     let s = began (p .before) in
-    admitted (s .args .file .now) (s .args .held) (true-there p)
+    (admitted-there (s .args .file .now) (s .args .held) (true-there p), totals-there (s .args .file .now) (s .args .held) (true-there p))
 
 -- the place is that of the section that is named
 placed : (c : tie.After-section-part) → let s = began (passed (c .before) .before) in c .section-part .result ≡ placeNamed (s .args .file .now) (over s)
@@ -59,4 +59,4 @@ returns-2 c =
 pub update-through-spec : {M : Type 1} → statement M
 update-through-spec =
     tie.close
-    (tie.spec (λ c κs. search needs) (λ c. search needs) returns section-part-requires update-at-requires (λ c. search needs) returns-2)
+    (tie.spec (λ c κs. search needs) (λ c. search needs) returns (λ c. search needs) section-part-requires update-at-requires (λ c. search needs) returns-2)
