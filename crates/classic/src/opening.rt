@@ -1,39 +1,87 @@
 // Opening an entry, for C.
 use super::answers::ClassicEntry;
-use super::tables::entry_addresses;
-use entry::OpenCase;
-use entry::open_case;
-use entry::open_entry;
+use descriptor::inner::admit;
+use entry::Entered;
+use entry::inner::enter;
 use geometry::EntryNumber;
-use pieces::Sections;
+use layout::entry_descriptor::PLACES;
+use pieces::identifier_at;
+use pieces::section_at;
+use words::ByteOrder;
+ghost use mathlib.Core.Path.{_≡_};
+ghost use Prim.Native.Nat.{_^_, _<_};
+ghost use lib.IntN.{ℤ};
 ghost use Rattle.outcome.specs.Outcome.{Answers};
-ghost use Rattle.entry.specs.Answers.{openOf};
-ghost use Rattle.classic.specs.Answers.{entryFrom, entryFor};
+ghost use Rattle.pieces.specs.Bounds.{Described};
+ghost use Rattle.entry.specs.Answers.{notOpened, openedAs, openOf};
+ghost use Rattle.classic.specs.Answers.{entryFor, entryHaving};
 ghost use Rattle.classic.specs.Bounds.{Slim};
 
-// An entry from a case and the tables.
-fn entry_from(case: OpenCase, sections: Sections) -> ClassicEntry
-    requires { ⌜ Slim case ⌝ }
-    ensures { λ r. ⌜ Answers (entryFrom case sections) r ⌝ }
+// An entry with a refusal.
+fn no_entry(refusal: u32) -> ClassicEntry
+    ensures { λ r. ⌜ Answers (entryFor (notOpened refusal)) r ⌝ }
 {
-    let place = case.place;
-    let array = case.array;
-    let ids = sections.identifiers;
-    let lengths = sections.lengths;
-    let addresses = sections.addresses;
     ClassicEntry {
-        refusal: case.refusal,
+        refusal,
+        record: 0,
+        word: 0,
+        version: 0,
+        nsec: 0,
+        nword: 0,
+        adata: 0,
+        ldata: 0,
+        ids: [0i32; PLACES],
+        lengths: [0u64; PLACES],
+        addresses: [0u64; PLACES],
+    }
+}
+
+// An entry by its numbers and its tables.
+fn entry_having(
+    entered: Entered,
+    ids: [i32; PLACES],
+    lengths: [u64; PLACES],
+    addresses: [u64; PLACES],
+) -> ClassicEntry
+    requires { ⌜ Slim entered ⌝ }
+    ensures { λ r. ⌜ Answers (entryHaving entered ids lengths addresses) r ⌝ }
+{
+    let place = entered.place;
+    let array = entered.array;
+    ClassicEntry {
+        refusal: 0,
         record: place.record.0,
         word: place.word.0 as u32,
-        version: case.version,
-        nsec: case.nsec as u32,
-        nword: case.nword,
-        adata: array.adata.0,
-        ldata: array.ldata,
+        version: entered.version,
+        nsec: entered.nsec as u32,
+        nword: entered.nword,
+        adata: words::signed64(array.address.0),
+        ldata: array.words,
         ids,
         lengths,
-        addresses: entry_addresses(addresses),
+        addresses,
     }
+}
+
+// An entry that was entered with no refusal, with its tables read from the file.
+fn entry_read(order: ByteOrder, file: &[u8], entered: Entered) -> ClassicEntry
+    requires { ⌜ Slim entered × Described order (now file) (entered .start) (entered .nsec) × (entered .refusal ≡ 0) ⌝ }
+    ensures { λ r. ⌜ Answers (entryFor (openedAs (now (file .entry)) entered)) r ⌝ }
+{
+    let start = entered.start;
+    let nsec = entered.nsec;
+    let mut ids = [0i32; PLACES];
+    let mut lengths = [0u64; PLACES];
+    let mut addresses = [0u64; PLACES];
+    let mut filled = 0;
+    while filled < nsec {
+        let section = section_at(order, file, start, nsec, filled);
+        ids[filled as usize] = identifier_at(order, file, start, nsec, filled);
+        lengths[filled as usize] = section.words;
+        addresses[filled as usize] = section.address.0;
+        filled += 1;
+    }
+    entry_having(entered, ids, lengths, addresses)
 }
 
 // An entry by its number, or the refusal.
@@ -41,8 +89,18 @@ fn entry_from(case: OpenCase, sections: Sections) -> ClassicEntry
 pub extern "C" fn classic_open(file: &[u8], entry: u64) -> ClassicEntry
     ensures { λ r. ⌜ Answers (entryFor (openOf (now (file .entry)) (record { 0 = entry }))) r ⌝ }
 {
-    let opened = open_entry(file, EntryNumber(entry));
-    let answer = opened.answer;
-    let sections = opened.sections;
-    entry_from(open_case(answer), sections)
+    let mut totals = [0u64; 16];
+    let admitted = admit(file, &mut totals);
+    if admitted.refusal != 0 {
+        return no_entry(admitted.refusal);
+    }
+    let d = admitted.numbers;
+    let entered = enter(file, d, &totals, EntryNumber(entry));
+    if entered.refusal != 0 {
+        return no_entry(entered.refusal);
+    }
+    if entered.nsec == 0 {
+        return entry_having(entered, [0i32; PLACES], [0u64; PLACES], [0u64; PLACES]);
+    }
+    entry_read(d.order, file, entered)
 }

@@ -17,6 +17,7 @@ pub use spread::data_apart;
 pub use spread::sections_apart;
 pub use spread::sections_spread;
 pub use tables::Sections;
+pub use tables::identifier_at;
 pub use tables::no_sections;
 pub use tables::section_named;
 pub use tables::section_tables;

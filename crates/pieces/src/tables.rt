@@ -31,7 +31,7 @@ pub fn no_sections() -> Sections
 }
 
 // The identifier of section `i`, counted from 0.
-fn identifier_at(order: ByteOrder, file: &[u8], start: u64, nsec: u64, i: u64) -> i32
+pub fn identifier_at(order: ByteOrder, file: &[u8], start: u64, nsec: u64, i: u64) -> i32
     requires { ⌜ Described order (now file) start nsec × (i < nsec) ⌝ }
     ensures { λ r. ⌜ Answers (identifierAt (now (file .entry)) start i) r ⌝ }
 {
