@@ -10,11 +10,9 @@ use Rattle.geometry.specs.declared.area.Slot.{Slot}
 use Rattle.geometry.specs.Units.{entriesBefore}
 use Rattle.geometry.specs.Area.{slotOf}
 use Rattle.descriptor.specs.declared.numbers.DescriptorNumbers.{DescriptorNumbers}
-use Rattle.descriptor.specs.declared.validating.Validated.{Validated}
-use Rattle.descriptor.specs.declared.validating.Validation.{Validation}
 use Rattle.descriptor.specs.Refusal.{row, refusalIn}
 use Rattle.descriptor.specs.FirstRecord.{growthIn}
-use Rattle.descriptor.specs.Answers.{validationOf}
+use Rattle.descriptor.specs.Answers.{validationOf, noValidation, Validates}
 use Rattle.descriptor.proofs.Tests.{holds, broken}
 use Rattle.entry.specs.declared.entered.Entered.{Entered}
 use Rattle.entry.specs.Opening.{enteredOf, endOf}
@@ -72,11 +70,15 @@ module _ (file : List ℕ) (d : DescriptorNumbers) (addresses : List RecordNumbe
     fails-opening o = ended (x .refusal) (rw (← is, o)) o
 
     -- where it opens, rule 25 for it and its slot
-    module _ (slot : Slot) (stands : slot ≡ slotOf (growthIn d) (d .nex) (d .lind) (record { 0 = passed + 1 })) (opens : x .refusal ≡ 0) where
+    module _ (opens : x .refusal ≡ 0) where
+      -- its slot
+      abbrev slot : Slot
+      slot = slotOf (growthIn d) (d .nex) (d .lind) (record { 0 = passed + 1 })
+
       tested : orderRefusal file d addresses (record { 0 = passed + 1 })
           ≡ refusalIn (row 25 (startsInOrder d addresses slot end (x .start)) ∷ row 25 (endsInOrder d addresses slot (endOf x)) ∷ [])
       unfolding orderRefusal
-      tested = let q : passed + 1 - 1 ≡ passed = omega arith in rw (← is, opens, ← stands, q, ← p .last)
+      tested = let q : passed + 1 - 1 ≡ passed = omega arith in rw (← is, opens, q, ← p .last)
 
       -- the code's first test finds that it starts too early
       pub fails-start : {r : Bool} → r ≡ startsInOrder d addresses slot end (x .start) → not r ≡ true → failed (passed + 1) 25 ≡ checkedAll file d addresses
@@ -95,7 +97,14 @@ module _ (file : List ℕ) (d : DescriptorNumbers) (addresses : List RecordNumbe
             let less : entries - (passed + 1) ≡ entries - passed - 1 = omega arith in
             record { few = omega arith; last = ap endOf is; rest = p .rest ∙ rw less (scan (passed + 1) (entries - passed) 0 (omega arith) (tested ∙ rw (s, e))) }
 
--- the check, by the validation's case
-pub check-by : (file : List ℕ) (v : Validation) (case : Validated) → v ≡ validationOf file → v .numbers ≡ case → checkOf file ≡ checkedIn file case (v .addresses)
-unfolding checkOf
-check-by file v case e q = rw (← e, ← q)
+-- the check, by the validation
+module _ (file : List ℕ) where
+  -- a file that is refused has no entry that is looked at
+  pub check-refused : {n : ℕ} → validationOf file ≡ noValidation n → failed 0 n ≡ checkOf file
+  unfolding checkOf checkedIn
+  check-refused q = rw q
+
+  -- and else all its entries are checked
+  pub check-numbers : {d : DescriptorNumbers} {addresses : List RecordNumber} → Validates file d addresses → checkedAll file d addresses ≡ checkOf file
+  unfolding checkOf checkedIn
+  check-numbers q = rw q

@@ -1,9 +1,7 @@
 // The order check of a file.
 use super::answers::Checked;
 use super::inner::check_entries;
-use descriptor::Validated;
-use descriptor::refusal_of;
-use descriptor::validate;
+use descriptor::inner::admit;
 use geometry::EntryNumber;
 ghost use Rattle.outcome.specs.Outcome.{Answers};
 ghost use Rattle.order.specs.Order.{checkOf};
@@ -12,14 +10,14 @@ ghost use Rattle.order.specs.Order.{checkOf};
 pub fn check_order(file: &[u8]) -> Checked
     ensures { λ r. ⌜ Answers (checkOf (now (file .entry))) r ⌝ }
 {
-    let validation = validate(file);
-    let case = validation.numbers;
-    let Validated::Numbers(d) = case else {
+    let mut totals = [0u64; 16];
+    let admitted = admit(file, &mut totals);
+    if admitted.refusal != 0 {
         return Checked {
             entry: EntryNumber(0),
-            refusal: refusal_of(case),
+            refusal: admitted.refusal,
         };
-    };
-    let addresses = validation.addresses;
-    check_entries(file, d, addresses)
+    }
+    let d = admitted.numbers;
+    check_entries(file, d, &totals)
 }

@@ -7,6 +7,7 @@ mod answers;
 mod checking;
 pub mod inner;
 mod rules;
+mod standing;
 
 pub use answers::Checked;
 pub use checking::check_order;

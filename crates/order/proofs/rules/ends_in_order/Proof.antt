@@ -1,62 +1,49 @@
 -- `order::rules::ends_in_order` meets its contract. Assumes nothing.
-use Prim.Native.Nat.{_+_, _-_}
-use mathlib.Core.Path.{_≡_, sym, _∙_}
-use mathlib.Core.Bool.{true}
-use lib.Dec.{eqb}
+use Prim.Native.Nat.{_+_}
+use mathlib.Core.Path.{_≡_, sym, ap, _∙_}
 use native.Mathlib.Omega.{arith}
-use borrow.Author.Tests.{eq-eqb, ne-eqb, lt-ltb, le-ltb}
-use Rattle.geometry.specs.Growth.{capacityOf}
-use Rattle.descriptor.specs.FirstRecord.{growthIn}
+use denote.Ref.{now}
+use lib.Dec.{leb}
+use lib.ListN.{length}
+use Rattle.geometry.specs.declared.units.RecordNumber.{RecordNumber}
+use Rattle.geometry.specs.Units.{positionOf}
+use Rattle.descriptor.specs.FirstRecord.{addressesOf, aexOf}
 use Rattle.descriptor.proofs.AreaOrder.{area-first}
-use Rattle.order.specs.Order.{endsInOrder}
+use Rattle.order.proofs.Standings.{area-read}
+use Rattle.order.proofs.Borders.{ends-other, ends-all, ends-last}
 use borrow.Author.Needs.{needs}
 use Rattle.order.proofs.rules.ends_in_order.Statement.{statement}
 use Rattle.order.proofs.rules.ends_in_order.Tie as tie
 
--- where the function begins
+-- the places behind the two tests, and where the function begins
 abbrev begin : tie.Else1 → tie.Start
-begin c = c .before .before
+begin c = c .before .before .before .before
 
--- the slot is its extension's last
-full : (c : tie.Else1) → let a = begin c .args in eqb (a .slot .place) (capacityOf (growthIn (a .d)) (a .slot .extension .0)) ≡ true
-full c = eq-eqb _ _ (c .if1 .left ∙ begin c .pre .1 .holds)
+abbrev last : tie.Else2 → tie.Else1
+last c = c .before .before .before
 
-returns : tie.Need-returns
-unfolding endsInOrder
-returns c =
-    let s = c .before .before in
-    let less = ne-eqb (s .args .slot .place) (capacityOf (growthIn (s .args .d)) (s .args .slot .extension .0)) (λ q. c .if1 .taken (q ∙ sym (s .pre .1 .holds))) in
-    rw less
+abbrev border : tie.After-aex-in → tie.Else2
+border c = c .before .before
 
-returns-2 : tie.Need-returns-2
-unfolding endsInOrder
-returns-2 c =
-    let o = c .before .before .before in
-    let a = begin o .args in
-    rw (full o, le-ltb (a .slot .extension .0) (a .d .nex) (c .if2 .taken))
-
-position-requires : tie.Need-position-requires
-position-requires c κs =
-    let t = c .before .before in
-    let s = begin (t .before .before .before) in
-    let first = area-first (s .args .bytes) (s .args .d) (s .args .addresses) (s .pre .0) (s .args .slot .extension .0 + 1) (omega arith) (omega (arith, t .if2 .left)) in
-    rw (c .aex .ensures) (omega (arith, first .0), first .1, omega arith, omega arith, s .pre .0 .settled .reclen-high)
-
-returns-3 : tie.Need-returns-3
-unfolding endsInOrder
-returns-3 c =
-    let t = c .before .before .before in
-    let o = t .before .before .before in
-    let a = begin o .args in
-    rw (full o, lt-ltb (a .slot .extension .0) (a .d .nex) (t .if2 .left), c .position .ensures, c .before .aex .ensures)
+-- the next area starts where the file says
+first : (c : tie.After-aex-in) → let a = begin (last (border c)) .args in c .aex-in .result ≡ aexOf (addressesOf (now (a .file)) (a .d .nex)) (a .at .extension .0 + 1)
+first c = let s = begin (last (border c)) in area-read (now (s .args .file)) (s .args .d) (s .pre .used .admitted) _ (omega arith) (omega (arith, border c .if2 .left)) (c .aex-in .ensures)
 
 pub ends-in-order-spec : {M : Type 1} → statement M
 ends-in-order-spec =
     tie.close
     (tie.spec
-    returns
-    returns-2
+    (λ c. sym (ends-other _ _ (c .before .before .before .before .pre) _ (c .if1 .taken)))
+    (λ c. let l = c .before .before .before in sym (ends-all _ _ (begin l .pre) _ (l .if1 .left) (c .if2 .taken)))
     (λ c. search needs)
     (λ c κs. search needs)
-    position-requires
-    returns-3)
+    (λ c κs.
+    let s = begin (last (border c)) in
+    let a = s .pre .used .admitted .admitted in
+    rw (first c) (omega (arith, area-first (length (now (s .args .file))) (s .args .d) _ a (s .args .at .extension .0 + 1) (omega arith) (omega (arith, border c .if2 .left)), a .settled .reclen-high)))
+    (λ c.
+    let x = c .before in
+    let l = last (border x) in
+    let s = begin l in
+    let next = c .position .ensures ∙ ap (λ (r : RecordNumber). positionOf (s .args .d .reclen) r (record { 0 = 1 })) (first x) in
+    ap (leb (s .args .end)) next ∙ sym (ends-last _ _ (s .pre) _ (l .if1 .left) (border x .if2 .left))))

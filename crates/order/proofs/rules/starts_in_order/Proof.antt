@@ -1,36 +1,43 @@
 -- `order::rules::starts_in_order` meets its contract. Assumes nothing.
-use Prim.Native.Nat.{_-_, _≤_}
+use Prim.Native.Nat.{ℕ, _+_, _*_, _^_, _<_}
+use mathlib.Core.Path.{_≡_, sym, ap, _∙_}
 use native.Mathlib.Omega.{arith}
-use native.Mathlib.Nat.{mul-le-mul-left}
-use borrow.Author.Tests.{eq-eqb, ne-eqb}
-use Rattle.descriptor.specs.Areas.{areaAfter}
-use Rattle.descriptor.proofs.AreaOrder.{after-low, area-ends}
-use Rattle.order.specs.Order.{startsInOrder}
+use denote.Ref.{now}
+use lib.Dec.{leb}
+use Rattle.descriptor.specs.FirstRecord.{addressesOf}
+use Rattle.descriptor.specs.Areas.{areaEndOf}
+use Rattle.descriptor.proofs.AreaOrder.{area-asks}
+use Rattle.order.proofs.Standings.{said}
+use Rattle.order.proofs.Borders.{own-capacity, area-room, area-behind, starts-first, starts-other}
 use Rattle.order.proofs.rules.starts_in_order.Statement.{statement}
 use Rattle.order.proofs.rules.starts_in_order.Tie as tie
 
-position-requires : tie.Need-position-requires
-position-requires c κs =
-    let s = c .before .before .before .before in
-    let k = s .args .slot .extension .0 in
-    let a = s .pre .0 in
-    let some : 1 ≤ s .args .d .reclen = omega (arith, a .settled .reclen-low) in
-    let low = after-low (s .args .d) (s .args .addresses) k (s .args .d .nex) (s .pre .1 .used) (a .started) in
-    let high = area-ends (s .args .bytes) (s .args .d) (s .args .addresses) a k (s .pre .1 .used) in
-    rw (c .area-after .ensures)
-    (omega arith, omega (arith, a .room, a .lent .high, mul-le-mul-left (areaAfter (s .args .d) (s .args .addresses) k .0 - 1) some), omega arith, omega arith, a .settled .reclen-high)
+-- the places behind the test and behind the count of records, and where the function begins
+abbrev begin : tie.Then1 → tie.Start
+begin c = c .before .before .before .before
 
-returns : tie.Need-returns
-unfolding startsInOrder
-returns c =
-    let a = c .before .before .before .before .before .args in
-    rw (eq-eqb (a .slot .place) 1 (c .before .before .before .if1 .taken), c .position .ensures, c .before .area-after .ensures)
+abbrev counted : tie.After-area-records → tie.Then1
+counted c = c .before .before
 
-returns-2 : tie.Need-returns-2
-unfolding startsInOrder
-returns-2 c =
-    let a = c .before .before .args in
-    rw (ne-eqb (a .slot .place) 1 (c .if1 .left))
+-- what the code adds is where the area ends
+sum : (c : tie.After-area-records) → let a = begin (counted c) .args in a .at .slot + c .area-records .result * a .d .reclen ≡ areaEndOf (a .d) (addressesOf (now (a .file)) (a .d .nex)) (a .at .extension .0)
+sum c = area-behind _ _ (begin (counted c) .pre) (counted c .if1 .taken) (c .area-records .ensures)
+
+-- which is no large number
+room : (c : tie.After-area-records) → let a = begin (counted c) .args in a .at .slot + c .area-records .result * a .d .reclen < 2 ^ 32
+room c = rw (sum c) (area-room _ _ (begin (counted c) .pre))
 
 pub starts-in-order-spec : {M : Type 1} → statement M
-starts-in-order-spec = tie.close (tie.spec (λ c κs. c .before .before .before .pre .1) position-requires returns returns-2)
+starts-in-order-spec =
+    tie.close
+    (tie.spec
+    (λ c. let s = c .before .before .pre in omega (arith, said _ _ s .before, said _ _ s .held .behind, s .used .high))
+    (λ c. let p = said _ _ (begin (c .before) .pre) in omega (arith, p .before, p .total, p .held .behind, p .held .reached))
+    (λ c κs. let s = begin (c .before) .pre in let p = said _ _ s in area-asks _ _ (s .used .admitted .admitted .settled) (p .held .counted) (p .used) (own-capacity _ _ s))
+    (λ c. omega (arith, room (c .before)))
+    (λ c. omega (arith, room (c .before .before)))
+    (λ c.
+    let x = c .before .before in
+    let s = begin (counted x) in
+    ap (λ (n : ℕ). leb n (s .args .start)) (sum x) ∙ sym (starts-first _ _ (s .pre) _ _ (counted x .if1 .taken)))
+    (λ c. sym (starts-other _ _ (c .before .before .before .before .pre) _ _ (c .if1 .left))))
