@@ -1,5 +1,6 @@
 -- The answers of the crates below as C has them (include/classic.h): an enum becomes a refusal field, a unit its number, a part its start and length.
 use Prim.Native.Nat.{ℕ, _-_}
+use lib.IntN.{ℤ}
 use mathlib.Core.List.{List, map}
 use Rattle.geometry.specs.declared.units.RecordNumber.{RecordNumber}
 use Rattle.geometry.specs.declared.units.EntryAddress.{EntryAddress}
@@ -10,6 +11,8 @@ use Rattle.descriptor.specs.declared.extensions.Extension.{Extension}
 use Rattle.descriptor.specs.declared.numbers.Settings.{Settings}
 use Rattle.descriptor.specs.Answers.{validatedCase}
 use Rattle.pieces.specs.declared.tables.Sections.{Sections}
+use Rattle.words.specs.Word.{integer8, signedOf}
+use Rattle.entry.specs.declared.entered.Entered.{Entered}
 use Rattle.entry.specs.declared.answers.OpenCase.{OpenCase}
 use Rattle.entry.specs.declared.answers.Opened.{Opened}
 use Rattle.entry.specs.Answers.{openCase}
@@ -67,6 +70,22 @@ entryFrom case sections = record {
   ids = sections .identifiers;
   lengths = sections .lengths;
   addresses = entryAddresses (sections .addresses);
+}
+
+-- the same of an entry that was entered with no refusal, and of its tables as C has them
+abbrev pub entryHaving : Entered → List ℤ → List ℕ → List ℕ → ClassicEntry
+entryHaving x ids lengths addresses = record {
+  refusal = 0;
+  «record» = x .place .«record» .0;
+  word = x .place .word .0;
+  version = x .version;
+  nsec = x .nsec;
+  nword = x .nword;
+  adata = signedOf integer8 (x .array .address .0);
+  ldata = x .array .words;
+  ids = ids;
+  lengths = lengths;
+  addresses = addresses;
 }
 
 -- an open: its case, and its tables

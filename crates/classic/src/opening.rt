@@ -9,8 +9,6 @@ use pieces::identifier_at;
 use pieces::section_at;
 use words::ByteOrder;
 ghost use mathlib.Core.Path.{_≡_};
-ghost use Prim.Native.Nat.{_^_, _<_};
-ghost use lib.IntN.{ℤ};
 ghost use Rattle.outcome.specs.Outcome.{Answers};
 ghost use Rattle.pieces.specs.Bounds.{Described};
 ghost use Rattle.entry.specs.Answers.{notOpened, openedAs, openOf};

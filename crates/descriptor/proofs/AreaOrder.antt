@@ -17,7 +17,6 @@ use Rattle.words.proofs.Ranges.{atLeast-bounds}
 use Rattle.words.proofs.Table.{places-at}
 use Rattle.words.proofs.Runs.{Run, run-next, run-test}
 use Rattle.geometry.specs.declared.units.RecordNumber.{RecordNumber}
-use Rattle.geometry.specs.declared.growth.Growth.{Growth}
 use Rattle.geometry.specs.Units.{positionOf}
 use Rattle.geometry.specs.Growth.{capacityOf, Growing}
 use Rattle.geometry.specs.Area.{areaRecords}
@@ -25,7 +24,8 @@ use Rattle.geometry.proofs.Capacities.{capacity-limit, over-fewer}
 use Rattle.geometry.proofs.Slots.{records-least}
 use Rattle.descriptor.specs.declared.numbers.DescriptorNumbers.{DescriptorNumbers}
 use Rattle.descriptor.specs.FirstRecord.{aexOf, aexAt, addressesOf, growthIn, freeOf}
-use Rattle.descriptor.specs.Areas.{areaAfter, areasStart, areasEnd, orderedAfter, areaAdded, areasHold}
+use Rattle.descriptor.specs.Areas.{areaAfter, areasStart, areasEnd}
+use Rattle.descriptor.specs.Walking.{orderedAfter, areaAdded, areasHold}
 use Rattle.descriptor.specs.Bounds.{Settled, Admitted}
 
 -- an area has no more records than words
@@ -113,12 +113,6 @@ module _ (d : DescriptorNumbers) (addresses : List RecordNumber) where
   unfolding areasHold areasEnd
   hold-is = either (areasStart d addresses (d .nex)) (λ q. rw (ordered-is (d .nex) true q, ordered-some (d .nex) q, q)) (λ q. rw (ordered-is (d .nex) false q, q))
 
-  -- an extension in use has an area of few records
-  pub area-small : (k : ℕ) → Settled d → 1 ≤ k → k ≤ d .nex → areaRecords (capacityOf (growthIn d) k) (d .lind) (d .reclen) ≤ 2 ^ 22
-  area-small k s h l =
-      records-small (capacityOf (growthIn d) k) (d .lind) (d .reclen) (omega (arith, s .reclen-low))
-      (capacity-limit (growthIn d) k (d .nex) h l (s .within)) (s .lind-high)
-
 -- the growth of settled numbers, as the code asks for it
 pub growing : (d : DescriptorNumbers) (k : ℕ) → Settled d → k ≤ d .nex → Growing (growthIn d) k
 growing d k s h = record {
@@ -129,11 +123,7 @@ growing d k s h = record {
 
 -- what the code asks before it counts the records of an extension in use
 module _ (d : DescriptorNumbers) (k : ℕ) (s : Settled d) (low : 1 ≤ k) (high : k ≤ d .nex) where
-  -- of its growth
-  pub capacity-asks : {g : Growth} → g ≡ growthIn d → (1 ≤ k) × (k ≤ 16) × Growing g (k - 1)
-  capacity-asks e = rw e (low, omega arith, growing d (k - 1) s (omega arith))
-
-  -- and of its capacity
+  -- of its capacity
   pub area-asks : {c : ℕ} → c ≡ capacityOf (growthIn d) k → (c ≤ 16384) × (d .lind ≤ 256) × (1 ≤ d .reclen) × (d .reclen ≤ 4096)
   area-asks e = let limit = capacity-limit (growthIn d) k (d .nex) low high (s .within) in omega arith
 

@@ -1,8 +1,8 @@
 -- The index areas of a file (01, "Extensions"): where each starts and ends, and that they keep their order.
 use Prim.Native.Nat.{ℕ, zero, suc, _+_}
-use mathlib.Core.Bool.{Bool, true, not, cond, _&&_}
+use mathlib.Core.Bool.{Bool, true, _&&_}
 use mathlib.Core.List.{List}
-use lib.Dec.{leb, eqb}
+use lib.Dec.{leb}
 use Rattle.words.specs.Word.{integer8, signedOf}
 use Rattle.words.specs.Range.{atLeast}
 use Rattle.geometry.specs.declared.units.RecordNumber.{RecordNumber}
@@ -34,17 +34,3 @@ areasStart d addresses (suc k) =
 -- the last area ends at or before the next free position
 unfoldable pub areasEnd : DescriptorNumbers → List RecordNumber → Bool
 areasEnd d addresses = leb (areaEndOf d addresses (d .nex)) (freeOf d)
-
--- the record after area k where the first k areas keep their order, and 0 where they do not
-unfoldable pub orderedAfter : DescriptorNumbers → List RecordNumber → ℕ → RecordNumber
-orderedAfter d addresses k = cond (areasStart d addresses k) (areaAfter d addresses k) (record { 0 = 0 })
-
--- the record after one area more, by the one after those before it and its own first record and capacity
-unfoldable pub areaAdded : DescriptorNumbers → RecordNumber → RecordNumber → ℕ → RecordNumber
-areaAdded d after first capacity =
-    cond (not (eqb (after .0) 0) && atLeast (after .0) (signedOf integer8 (first .0))) (record { 0 = first .0 + areaRecords capacity (d .lind) (d .reclen) })
-    (record { 0 = 0 })
-
--- rule 11 by the record after the last area, which is 0 where the areas do not keep their order
-unfoldable pub areasHold : DescriptorNumbers → RecordNumber → Bool
-areasHold d after = not (eqb (after .0) 0) && leb (positionOf (d .reclen) after (record { 0 = 1 })) (freeOf d)

@@ -1,12 +1,12 @@
 -- What the rules leave once they are passed, as the functions behind them ask for it.
-use Prim.Native.Nat.{ℕ, _+_, _*_, _/_, _%_, _^_, _≤_, _<_}
+use Prim.Native.Nat.{ℕ, _+_, _*_, _-_, _/_, _%_, _^_, _≤_, _<_}
 use mathlib.Core.Path.{_≡_}
 use mathlib.Core.Bool.{true, false}
 use mathlib.Core.List.{List}
 use lib.ListN.{length}
 use Rattle.geometry.specs.declared.units.RecordNumber.{RecordNumber}
 use Rattle.geometry.specs.Units.{entriesBefore}
-use Rattle.geometry.specs.Growth.{capacityOf, overOf}
+use Rattle.geometry.specs.Growth.{totalOf, overOf}
 use Rattle.geometry.specs.Totals.{totalsOf}
 use Rattle.layout.specs.FileCode.{byteOrderOf}
 use Rattle.descriptor.specs.declared.numbers.DescriptorNumbers.{DescriptorNumbers}
@@ -67,14 +67,6 @@ pub record Free (d : DescriptorNumbers) : Type 0 where
   pub word-low : 1 ≤ d .nextword .0
   pub word-high : d .nextword .0 ≤ d .reclen
 
--- an extension in use of that capacity, where the areas start in order
-pub record Ordered (d : DescriptorNumbers) (addresses : List RecordNumber) (k capacity : ℕ) : Type 0 where
-  pub settled : Settled d
-  pub started : areasStart d addresses (d .nex) ≡ true
-  pub counted : 1 ≤ k
-  pub used : k ≤ d .nex
-  pub holds : capacity ≡ capacityOf (growthIn d) k
-
 -- all of them: what `validate` shows of the numbers and addresses of a file of so many bytes
 pub record Admitted (bytes : ℕ) (d : DescriptorNumbers) (addresses : List RecordNumber) : Type 0 where
   pub settled : Settled d
@@ -86,6 +78,11 @@ pub record Admitted (bytes : ℕ) (d : DescriptorNumbers) (addresses : List Reco
   pub started : areasStart d addresses (d .nex) ≡ true
   pub ended : areasEnd d addresses ≡ true
   pub table : length addresses ≡ 16
+
+-- what the extensions in use hold together, without the last and with it
+pub record Holding (d : DescriptorNumbers) (before total : ℕ) : Type 0 where
+  pub without : before ≡ totalOf (growthIn d) (d .nex - 1)
+  pub with : total ≡ totalOf (growthIn d) (d .nex)
 
 -- a table has the totals of the extensions in use
 abbrev pub TotalsOf : DescriptorNumbers → List ℕ → Type 0

@@ -1,5 +1,5 @@
 // Where the index areas of a file start and end, and rule 11.
-use super::inner::free_position;
+use super::derived::free_position;
 use super::numbers::DescriptorNumbers;
 use super::numbers::field8_at;
 use geometry::ExtensionNumber;
@@ -10,15 +10,13 @@ use geometry::position_within;
 use layout::first_record::aex_word;
 use words::ByteOrder;
 ghost use mathlib.Core.Path.{_≡_};
-ghost use mathlib.Core.Bool.{cond};
 ghost use Prim.Native.Nat.{_+_, _*_, _^_, _≤_, _<_};
-ghost use lib.Dec.{eqb};
 ghost use lib.ListN.{length};
 ghost use Rattle.outcome.specs.Outcome.{Answers};
 ghost use Rattle.geometry.specs.Units.{indexOf};
 ghost use Rattle.layout.specs.FileCode.{byteOrderOf};
 ghost use Rattle.descriptor.specs.FirstRecord.{aexAt, freeOf};
-ghost use Rattle.descriptor.specs.Areas.{areasHold, areaAdded};
+ghost use Rattle.descriptor.specs.Walking.{areaAdded, areasHold};
 ghost use Rattle.descriptor.specs.Bounds.{Limited, Free};
 
 // The first record of an extension's index area, as the file has it.

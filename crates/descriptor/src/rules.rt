@@ -1,19 +1,16 @@
 // The rules of a first record, tested in the order of their table.
-use super::inner::mex;
+use super::derived::mex;
 use super::numbers::DescriptorNumbers;
-use geometry::ExtensionNumber;
 use geometry::Growth;
 use geometry::byte_offset;
 use geometry::entries_before;
 use geometry::position_within;
-use geometry::total_before;
-ghost use Prim.Native.Nat.{_≤_};
 ghost use Rattle.outcome.specs.Outcome.{Answers};
 ghost use Rattle.words.specs.Word.{integer4, signedOf};
 ghost use Rattle.words.specs.Range.{within};
 ghost use Rattle.descriptor.specs.FirstRecord.{growthIn};
 ghost use Rattle.descriptor.specs.Rules.{entriesFit, limitRefusal, settingRefusal, countRefusal};
-ghost use Rattle.descriptor.specs.Bounds.{Settled, Lent, TotalsOf};
+ghost use Rattle.descriptor.specs.Bounds.{Settled, Lent, Holding};
 
 // Whether the record length is admitted.
 fn reclen_holds(reclen: u64) -> bool
@@ -92,30 +89,30 @@ pub fn setting_refusal(bytes: u64, d: DescriptorNumbers) -> u32
     0
 }
 
-// Whether n entries fit the extensions in use, by their totals.
-fn entries_fit(d: DescriptorNumbers, totals: &[u64], n: u64) -> bool
-    requires { ⌜ (d .nex ≤ 16) × TotalsOf d (now totals) ⌝ }
+// Whether n entries fit the extensions in use, by what these hold without the last and with it.
+fn entries_fit(d: DescriptorNumbers, before: u64, total: u64, n: u64) -> bool
+    requires { ⌜ Holding d before total ⌝ }
     ensures { λ r. ⌜ Answers (entriesFit (growthIn d) (d .nex) n) r ⌝ }
 {
     if d.nex == 0 {
         return n == 0;
     }
-    if total_before(totals, ExtensionNumber(d.nex + 1)) < n {
+    if total < n {
         return false;
     }
-    total_before(totals, ExtensionNumber(d.nex)) < n
+    before < n
 }
 
-// Rules 9 and 10, on settled numbers, the totals of the extensions in use and the count of bytes lent: the first that
-// is broken, or 0.
-pub(crate) fn count_refusal(bytes: u64, d: DescriptorNumbers, totals: &[u64]) -> u32
-    requires { ⌜ Settled d × Lent bytes d × TotalsOf d (now totals) ⌝ }
+// Rules 9 and 10, on settled numbers, what the extensions in use hold without the last and with it, and
+// the count of bytes lent: the first that is broken, or 0.
+pub(crate) fn count_refusal(bytes: u64, d: DescriptorNumbers, before: u64, total: u64) -> u32
+    requires { ⌜ Settled d × Lent bytes d × Holding d before total ⌝ }
     ensures { λ r. ⌜ Answers (countRefusal bytes d) r ⌝ }
 {
     if !words::at_least8(d.xnext.0, 1) {
         return 9;
     }
-    if !entries_fit(d, totals, entries_before(d.xnext)) {
+    if !entries_fit(d, before, total, entries_before(d.xnext)) {
         return 9;
     }
     if !words::at_least8(d.nextrec.0, 2) {

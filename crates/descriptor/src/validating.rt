@@ -67,7 +67,7 @@ pub fn admit(file: &[u8], totals: &mut [u64]) -> ValidatedCase
     if walked.over {
         return refused(8);
     }
-    let count = count_refusal(bytes, d, totals);
+    let count = count_refusal(bytes, d, walked.before, walked.total);
     if count != 0 {
         return refused(count);
     }

@@ -16,11 +16,14 @@ ghost use Rattle.descriptor.specs.FirstRecord.{addressesOf};
 ghost use Rattle.descriptor.specs.Walking.{walkedOf, walkedTotals};
 ghost use Rattle.descriptor.specs.Bounds.{Limited};
 
-// What the walk finds: whether a capacity is over the limit, and the record after the last index area, 0
-// where the areas do not keep their order.
+// What the walk finds: whether a capacity is over the limit; the record after the last index area, 0
+// where the areas do not keep their order; and how many entries the extensions in use hold together,
+// without the last and with it.
 pub struct Walked {
     pub over: bool,
     pub after: RecordNumber,
+    pub before: u64,
+    pub total: u64,
 }
 
 // Makes a table of totals zero.
@@ -42,6 +45,7 @@ pub(crate) fn walk_extensions(file: &[u8], d: DescriptorNumbers, totals: &mut [u
 {
     let growth = Growth::new(d.lex1, d.gex);
     let mut after = RecordNumber(2);
+    let mut before = 0;
     let mut walk = walk_begun(growth);
     while walk.extension.0 <= d.nex {
         if Growth::CAPACITY_MAX < walk.capacity {
@@ -49,14 +53,22 @@ pub(crate) fn walk_extensions(file: &[u8], d: DescriptorNumbers, totals: &mut [u
             return Walked {
                 over: true,
                 after: RecordNumber(0),
+                before: 0,
+                total: 0,
             };
         }
         let extension = walk.extension;
         let first = aex_in(d.order, file, extension);
         after = after_area(d, after, first, walk.capacity);
+        before = walk.before;
         let at = table_index(extension);
         totals[at] = walk.before + walk.capacity;
         walk = walk_on(growth, walk);
     }
-    Walked { over: false, after }
+    Walked {
+        over: false,
+        after,
+        before,
+        total: walk.before,
+    }
 }

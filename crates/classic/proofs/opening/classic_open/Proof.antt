@@ -1,18 +1,73 @@
--- `classic::opening::classic_open` meets its contract: the numbers of an open fit 32 bits. Assumes nothing.
-use Rattle.classic.proofs.Narrow.{slim}
-use mathlib.Core.Path.{_∙_}
+-- `classic::opening::classic_open` meets its contract: the file is validated, the entry is entered, and its tables are read. Assumes nothing.
+use mathlib.Core.Path.{_≡_, sym, ap, _∙_}
+use denote.Ref.{now}
 use borrow.Author.Needs.{needs}
+use borrow.Author.Tests.{ne-eqb}
+use Rattle.descriptor.proofs.Answered.{Admits, case-told, case-left}
+use Rattle.pieces.proofs.Pieces.{described-in}
+use Rattle.entry.specs.Answers.{openedAs, openOf}
+use Rattle.entry.proofs.Opened.{known, open-refused, open-numbers}
+use Rattle.classic.specs.Answers.{entryFor}
+use Rattle.classic.specs.Bounds.{Slim}
+use Rattle.classic.proofs.Narrow.{slim}
+use Rattle.classic.proofs.Entries.{having-none}
 use Rattle.classic.proofs.opening.classic_open.Statement.{statement}
 use Rattle.classic.proofs.opening.classic_open.Tie as tie
 
-entry-from-requires : tie.Need-entry-from-requires
-entry-from-requires c κs = rw (c .open-case .ensures, c .before .before .open-entry .ensures) (slim (c .before .before .before .before .args .file .now) _)
+-- the place behind the call that validates, and what it shows where it does not refuse
+abbrev called : tie.Else1 → tie.After-admit
+called c = c .before .before .before
+
+shown : (c : tie.Else1) → let a = called c in Admits (now (a .before .before .before .args .file)) (a .admit .result) (a .admit .last .1 .0)
+shown c = let a = called c .admit in case-told _ (a .result) (a .ensures .0) (a .ensures .1) (c .if1 .left)
+
+abbrev admitted-at : tie.After-enter → tie.Else1
+admitted-at c = c .before .before .before
+
+-- the answer is made of what was entered
+answer : (c : tie.After-enter) → let a = called (admitted-at c) .before .before .before .args in
+    entryFor (openOf (now (a .file)) (record { 0 = a .entry })) ≡ entryFor (openedAs (now (a .file)) (c .enter .result))
+answer c = ap entryFor (open-numbers _ _ (shown (admitted-at c) .validation) ∙ ap (openedAs _) (sym (c .enter .ensures)))
+
+abbrev entered-at : tie.Else2 → tie.After-enter
+entered-at c = c .before .before
+
+-- and its numbers fit
+fits : (c : tie.Else2) → Slim (entered-at c .enter .result)
+fits c =
+    let x = entered-at c in
+    slim _ _ _ _ (x .enter .result) (shown (admitted-at x) .admitted .admitted) (x .enter .ensures) (c .if2 .left)
 
 returns : tie.Need-returns
 returns c =
-    let o = c .before .before .before .open-entry in
-    c .entry-from .ensures ∙ rw (c .before .open-case .ensures, o .ensures)
+    let a = c .before .before .before .before .admit in
+    c .no-entry .ensures ∙ sym (ap entryFor (open-refused _ _ (case-left _ (a .result) (a .ensures .0) (c .before .if1 .taken)) (c .before .if1 .taken)))
+
+returns-2 : tie.Need-returns-2
+unfolding openedAs
+returns-2 c =
+    let x = c .before .before .before in
+    c .no-entry2 .ensures ∙ sym (answer x ∙ rw (ne-eqb (x .enter .result .refusal) 0 (c .before .if2 .taken)))
 
 pub classic-open-spec : {M : Type 1} → statement M
 classic-open-spec =
-    tie.close (tie.spec (λ c κs. search needs) (λ c κs. search needs) entry-from-requires returns)
+    tie.close
+    (tie.spec
+    (λ c. search needs)
+    (λ c κs. search needs)
+    (λ c κs. search needs)
+    returns
+    (λ c. search needs)
+    (λ c κs. let p = shown (c .before .before) in (p .admitted, p .table))
+    (λ c κs. search needs)
+    returns-2
+    (λ c κs. fits (c .before .before))
+    (λ c.
+    let e = c .before .before .before in
+    c .entry-having .ensures ∙ having-none _ (entered-at e .enter .result) (e .if2 .left) (c .before .if3 .taken) ∙ sym (answer (entered-at e)))
+    (λ c κs.
+    let e = c .before .before in
+    let x = entered-at e in
+    let a = shown (admitted-at x) .admitted in
+    (fits e, described-in (a .order) (known _ _ _ _ (x .enter .result) (a .admitted) (x .enter .ensures) (e .if2 .left) .described), e .if2 .left))
+    (λ c. c .entry-read .ensures ∙ sym (answer (entered-at (c .before .before .before)))))

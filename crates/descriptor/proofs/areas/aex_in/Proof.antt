@@ -1,5 +1,5 @@
 -- `descriptor::areas::aex_in` meets its contract. Assumes nothing.
-use mathlib.Core.Path.{_≡_, ap}
+use mathlib.Core.Path.{ap}
 use native.Mathlib.Omega.{arith}
 use borrow.Author.Needs.{needs}
 use Rattle.geometry.specs.declared.units.WordNumber.{WordNumber}

@@ -8,7 +8,7 @@ use mir.Syntax.{w64}
 use Rattle.words.specs.Word.{signedOf}
 use Rattle.words.specs.Range.{atLeast}
 use Rattle.words.proofs.Ranges.{atLeast-bounds}
-use Rattle.descriptor.specs.Areas.{areaAdded}
+use Rattle.descriptor.specs.Walking.{areaAdded}
 use Rattle.descriptor.proofs.Tests.{holds, broken}
 use Rattle.descriptor.proofs.AreaOrder.{records-small}
 use Rattle.descriptor.proofs.areas.after_area.Statement.{statement}

@@ -1,9 +1,7 @@
 -- `descriptor::areas::areas_hold` meets its contract. Assumes nothing.
-use mathlib.Core.Path.{_≡_}
-use native.Mathlib.Omega.{arith}
 use borrow.Author.Needs.{needs}
 use borrow.Author.Tests.{eq-eqb, ne-eqb}
-use Rattle.descriptor.specs.Areas.{areasHold}
+use Rattle.descriptor.specs.Walking.{areasHold}
 use Rattle.descriptor.proofs.areas.areas_hold.Statement.{statement}
 use Rattle.descriptor.proofs.areas.areas_hold.Tie as tie
 

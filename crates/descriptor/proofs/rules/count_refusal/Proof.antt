@@ -20,7 +20,7 @@ rules s = countRules (s .args .bytes) (s .args .d)
 
 -- the places behind the tests
 abbrev past-1 : tie.Else1 → Past rules 1
-past-1 c = next (past-none (c .before .before .before)) (holds (c .before .at-least8 .ensures) (c .if1 .left))
+past-1 c = next (past-none (c .before .before)) (holds (c .before .at-least8 .ensures) (c .if1 .left))
 
 fit : (c : tie.After-entries-fit) → let d = past-1 (c .before .before) .given .args .d in c .entries-fit .result ≡ entriesFit (growthIn d) (d .nex) (entriesBefore (d .xnext))
 fit c = rw (c .before .entries-before .ensures) at (c .entries-fit .ensures)
@@ -43,9 +43,9 @@ count-refusal-spec =
     tie.close
     (tie.spec
     (λ c κs. search needs)
-    (λ c. stop {rules = rules} (past-none (c .before .before .before)) (broken (c .before .at-least8 .ensures) (c .if1 .taken)))
+    (λ c. stop {rules = rules} (past-none (c .before .before)) (broken (c .before .at-least8 .ensures) (c .if1 .taken)))
     (λ c κs. atLeast-bounds w64 1 (past-1 c .given .args .d .xnext .0) (past-1 c .rows .0) .0)
-    (λ c κs. let s = past-1 (c .before) .given in (s .pre .0 .nex-high, s .pre .2))
+    (λ c κs. past-1 (c .before) .given .pre .2)
     (λ c. stop (past-1 (c .before .before .before)) (broken (fit (c .before)) (c .if2 .taken)))
     (λ c κs. search needs)
     (λ c. stop (past-2 (c .before .before)) (broken (c .before .at-least82 .ensures) (c .if3 .taken)))

@@ -1,6 +1,5 @@
 -- `descriptor::rules::setting_refusal` meets its contract: the limits are tested, and then the capacities. Assumes nothing.
 use mathlib.Core.Path.{_≡_, sym, _∙_}
-use native.Mathlib.Omega.{arith}
 use borrow.Author.Needs.{needs}
 use borrow.Author.Tests.{ne-eqb}
 use Rattle.geometry.specs.Growth.{overOf}

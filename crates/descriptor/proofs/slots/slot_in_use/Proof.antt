@@ -1,6 +1,6 @@
 -- `descriptor::slots::slot_in_use` meets its contract. The loop's invariant: the extensions passed do not reach the entry. Assumes nothing.
 use mathlib.Core.Path.{_≡_, sym, ap, _∙_}
-use Prim.Native.Nat.{ℕ, _+_, _-_, _*_, _≤_, _<_}
+use Prim.Native.Nat.{ℕ, _+_, _-_, _≤_, _<_}
 use native.Mathlib.Omega.{arith}
 use native.Mathlib.Nat.{mul-le-mul}
 use denote.Ref.{now}

@@ -1,6 +1,6 @@
 -- `descriptor::validating::admit` meets its contract: the parts of the table are tested in turn. Assumes nothing.
 use Prim.Native.Nat.{ℕ, _/_, _^_, _<_}
-use mathlib.Core.Path.{_≡_, refl, sym, ap, _∙_}
+use mathlib.Core.Path.{_≡_, refl, sym, ap, subst, _∙_}
 use mathlib.Core.Bool.{true, false, _&&_}
 use mathlib.Core.List.{List}
 use native.Mathlib.Omega.{arith}
@@ -13,15 +13,15 @@ use Rattle.geometry.specs.Totals.{totalsOf}
 use Rattle.descriptor.specs.declared.numbers.DescriptorNumbers.{DescriptorNumbers}
 use Rattle.descriptor.specs.declared.walking.Walked.{Walked}
 use Rattle.descriptor.specs.FirstRecord.{numbersOf, addressesOf, growthIn, freeOf}
-use Rattle.descriptor.specs.Areas.{areasStart, areasEnd, areasHold}
-use Rattle.descriptor.specs.Bounds.{Free}
+use Rattle.descriptor.specs.Areas.{areasStart, areasEnd}
+use Rattle.descriptor.specs.Bounds.{Free, Holding}
 use Rattle.descriptor.specs.Rules.{limitRefusal, settingRefusal, countRules, countRefusal, fillingRefusal, noLeftovers, fileRefusal}
-use Rattle.descriptor.specs.Walking.{walkedOf, walkedTotals, totalsIn}
+use Rattle.descriptor.specs.Walking.{areasHold, walkedOf, walkedTotals, totalsIn}
 use Rattle.descriptor.proofs.Tests.{holds, broken}
 use Rattle.descriptor.proofs.Refusals.{all-hold}
 use Rattle.descriptor.proofs.Passed.{limited, settled, lent, setting-parts, place-bounds}
 use Rattle.descriptor.proofs.AreaOrder.{hold-is}
-use Rattle.descriptor.proofs.Walks.{walked-over, walked-after, walked-totals}
+use Rattle.descriptor.proofs.Walks.{walked-over, walked-after, walked-holding, walked-totals}
 use Rattle.descriptor.proofs.Answered.{file-order, filling-parts, case-refused, totals-settled, totals-unsettled, settings-refused, filling-refused, leftovers-refused, none-refused}
 use Rattle.descriptor.proofs.validating.admit.Statement.{statement}
 use Rattle.descriptor.proofs.validating.admit.Tie as tie
@@ -69,12 +69,19 @@ totals c = walked-at c .walk-extensions .ensures .1 ∙ ap walkedTotals (read c 
 left : (c : tie.Else3) → walked-at c .walk-extensions .last .1 .1 .0 ≡ totalsIn (file-of (read c))
 left c = totals c ∙ sym (totals-settled _ (long (read c)) (none c))
 
+-- and what it found the extensions in use to hold
+holding : (c : tie.Else3) → Holding (read c .numbers-of .result) (walked-at c .walk-extensions .result .before) (walked-at c .walk-extensions .result .total)
+holding c =
+    let d = read c .numbers-of .result in
+    let within-read = subst (λ (x : DescriptorNumbers). overOf (growthIn x) (x .nex) ≡ false) (sym (read c .numbers-of .ensures)) (within c) in
+    walked-holding d (addressesOf (file-of (read c)) (d .nex)) (walked-at c .walk-extensions .ensures .0) within-read
+
 -- behind the walk: the counts
-count : (c : tie.After-count-refusal) → let file = file-of (read (c .before .before)) in c .count-refusal .result ≡ countRefusal (length file) (numbersOf file)
-count c = rw (read (c .before .before) .numbers-of .ensures) at (c .count-refusal .ensures)
+count : (c : tie.After-count-refusal) → let file = file-of (read (c .before)) in c .count-refusal .result ≡ countRefusal (length file) (numbersOf file)
+count c = rw (read (c .before) .numbers-of .ensures) at (c .count-refusal .ensures)
 
 abbrev walked : tie.Else4 → tie.Else3
-walked c = c .before .before .before
+walked c = c .before .before
 
 counted : (c : tie.Else4) → let file = file-of (read (walked c)) in countRefusal (length file) (numbersOf file) ≡ 0
 counted c = sym (count (c .before)) ∙ c .if4 .left
@@ -146,7 +153,7 @@ returns-3 c =
 returns-4 : tie.Need-returns-4
 returns-4 c =
     let k = c .before .before in
-    let e = k .before .before in
+    let e = k .before in
     let other = ne-eqb (k .count-refusal .result) 0 (c .before .if4 .taken) in
     (c .refused4 .ensures ∙ sym (filling-refused (file-of (read e)) (long (read e)) (none e) (k .count-refusal .result) (filling-parts (file-of (read e)) _ ∙ rw (← (count k), other)) other), left e)
 
@@ -183,9 +190,8 @@ admit-spec =
     (λ c. search needs)
     returns-3
     (λ c κs.
-    let e = c .before in
-    let n = read e in
-    (rw (n .numbers-of .ensures) (settled _ _ (none e)), rw (n .numbers-of .ensures) (lent _ _ (kept (walked-at e .before .before)) (n .before .if1 .left)), rw (n .numbers-of .ensures) (totals e)))
+    let n = read c in
+    (rw (n .numbers-of .ensures) (settled _ _ (none c)), rw (n .numbers-of .ensures) (lent _ _ (kept (walked-at c .before .before)) (n .before .if1 .left)), holding c))
     (λ c κs. search needs)
     (λ c. search needs)
     returns-4

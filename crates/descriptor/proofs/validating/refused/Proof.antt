@@ -1,8 +1,5 @@
 -- `descriptor::validating::refused` meets its contract. Assumes nothing.
-use mathlib.Core.Path.{_≡_, ap}
 use borrow.Author.Needs.{needs}
-use Rattle.descriptor.specs.declared.numbers.DescriptorNumbers.{DescriptorNumbers}
-use Rattle.descriptor.specs.declared.validating.ValidatedCase.{ValidatedCase}
 use Rattle.descriptor.proofs.validating.refused.Statement.{statement}
 use Rattle.descriptor.proofs.validating.refused.Tie as tie
 

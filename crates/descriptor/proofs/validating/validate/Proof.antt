@@ -1,5 +1,5 @@
 -- `descriptor::validating::validate` meets its contract: the numbers are admitted, and the addresses are read. Assumes nothing.
-use mathlib.Core.Path.{_≡_, sym, ap, _∙_}
+use mathlib.Core.Path.{sym, _∙_}
 use native.Mathlib.Omega.{arith}
 use denote.Ref.{now}
 use borrow.Author.Needs.{needs}

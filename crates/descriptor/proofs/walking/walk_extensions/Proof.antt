@@ -2,7 +2,7 @@
 -- the limit, `after` is the record after their areas, and the table has their totals. Assumes nothing.
 use mathlib.Core.Path.{_≡_, refl, sym, ap, _∙_}
 use mathlib.Core.Bool.{true, false}
-use Prim.Native.Nat.{_+_, _-_, _≤_}
+use Prim.Native.Nat.{ℕ, _+_, _-_, _≤_}
 use native.Mathlib.Omega.{arith}
 use denote.Ref.{now}
 use borrow.Author.Needs.{needs}
@@ -11,27 +11,27 @@ use lib.Dec.{ltb}
 use lib.ListN.{length}
 use Rattle.words.proofs.Table.{Filling, filling-none, filling-all, length-places}
 use Rattle.geometry.specs.declared.growth.Growth.{Growth}
+use Rattle.geometry.specs.declared.walk.Walk.{Walk}
 use Rattle.geometry.specs.Growth.{capacityOf, totalOf, overOf}
 use Rattle.geometry.specs.Totals.{totalsOf}
 use Rattle.geometry.specs.Walk.{walkOf}
-use Rattle.geometry.proofs.Capacities.{over-none, over-last, over-more, total-limit}
+use Rattle.geometry.proofs.Capacities.{over-none, over-last, over-more, total-none, total-limit}
 use Rattle.geometry.proofs.TotalTables.{totals-on}
 use Rattle.geometry.proofs.Parts.{walk-stands, walk-capacity, walk-total}
 use Rattle.descriptor.specs.FirstRecord.{growthIn, addressesOf}
-use Rattle.descriptor.specs.Areas.{orderedAfter, areaAdded}
-use Rattle.descriptor.specs.Walking.{walkedOf, walkedTotals}
+use Rattle.descriptor.specs.Walking.{orderedAfter, areaAdded, walkedOf, walkedTotals}
 use Rattle.descriptor.proofs.AreaOrder.{aex-stored, ordered-none, ordered-next}
 use Rattle.descriptor.proofs.walking.walk_extensions.Statement.{statement}
 use Rattle.descriptor.proofs.walking.walk_extensions.Tie as tie
 
 abbrev Inv-loop : tie.InvT-loop
-Inv-loop file d totals₀ growth after₀ walk₀ totals after walk =
+Inv-loop file d totals₀ growth after₀ before₀ walk₀ totals after before walk =
     (walk ≡ walkOf (growthIn d) (walk .extension .0)) × (1 ≤ walk .extension .0) × (overOf (growthIn d) (walk .extension .0 - 1) ≡ false)
     × (after ≡ orderedAfter d (addressesOf file (d .nex)) (walk .extension .0 - 1))
-    × Filling 16 (d .nex) (λ i. totalOf (growthIn d) (i + 1)) 0 totals (walk .extension .0 - 1)
+    × Filling 16 (d .nex) (λ i. totalOf (growthIn d) (i + 1)) 0 totals (walk .extension .0 - 1) × (before ≡ totalOf (growthIn d) (walk .extension .0 - 1 - 1))
 
 abbrev μ-loop : tie.MeasureT-loop
-μ-loop file d totals₀ growth after₀ walk₀ totals after walk = d .nex + 1 - walk .extension .0
+μ-loop file d totals₀ growth after₀ before₀ walk₀ totals after before walk = d .nex + 1 - walk .extension .0
 
 -- the places on the way
 abbrev start : tie.At-loop Inv-loop μ-loop → tie.Start Inv-loop μ-loop
@@ -97,7 +97,7 @@ loop-holds : tie.Need-loop-holds Inv-loop μ-loop
 loop-holds c =
     let s = c .before .before .before .before in
     let at = walk-stands (growthIn (s .args .d)) (c .walk-begun .ensures ∙ ap (λ (g : Growth). walkOf g 1) (c .before .new .ensures)) in
-    (at .1, omega (arith, at .0), rw (at .0) (over-none _), rw (at .0) (sym (ordered-none _ _)), rw (at .0, s .pre .3) filling-none)
+    (at .1, omega (arith, at .0), rw (at .0) (over-none _), rw (at .0) (sym (ordered-none _ _)), rw (at .0, s .pre .3) filling-none, rw (at .0) (sym (total-none _)))
 
 loop-again : tie.Need-loop-again Inv-loop μ-loop
 loop-again c =
@@ -107,12 +107,14 @@ loop-again c =
     let k = l .loop .walk .extension .0 in
     let at = walk-stands (growthIn (start l .args .d)) (c .walk-on .ensures ∙ ap (λ (g : Growth). walkOf g (k + 1)) (grown l)) in
     let next : c .walk-on .result .extension .0 - 1 ≡ k - 1 + 1 = omega (arith, at .0, come l) in
+    let back : k - 1 ≡ c .walk-on .result .extension .0 - 1 - 1 = omega (arith, at .0, come l) in
     let value = total e ∙ ap (totalOf (growthIn (start l .args .d))) (sym (come l)) in (
       at .1,
       omega (arith, at .0),
       rw (next, come l) (within e),
       rw next (added (b .before .before)),
       totals-on (l .loop .inv .4) (b .before .table-index .ensures) (omega (arith, used (e .before), l .loop .inv .1)) (start l .pre .0 .nex-high) value next,
+      ap (λ (w : Walk). w .before) (l .loop .inv .0) ∙ ap (totalOf (growthIn (start l .args .d))) back,
     )
 
 returns : tie.Need-returns Inv-loop μ-loop
@@ -127,7 +129,9 @@ returns-2 c =
     let last : l .loop .walk .extension .0 - 1 ≡ d .nex = omega (arith, l .loop .inv .1, l .loop .inv .4 .few, c .if1 .left) in
     let none : overOf (growthIn d) (d .nex) ≡ false = rw last at (l .loop .inv .2) in
     let after = l .loop .inv .3 ∙ ap (orderedAfter d (addressesOf (now (start l .args .file)) (d .nex))) last in
-    rw none (rw after, filling-all (l .loop .inv .4) (omega (arith, last)))
+    let without = l .loop .inv .5 ∙ ap (λ (k : ℕ). totalOf (growthIn d) (k - 1)) last in
+    let with = ap (λ (w : Walk). w .before) (l .loop .inv .0) ∙ ap (totalOf (growthIn d)) last in
+    rw none (λ i. record { over = false; after = after i; before = without i; total = with i }, filling-all (l .loop .inv .4) (omega (arith, last)))
 
 pub walk-extensions-spec : {M : Type 1} → statement M
 walk-extensions-spec =

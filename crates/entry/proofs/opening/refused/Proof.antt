@@ -1,5 +1,4 @@
 -- `entry::opening::refused` meets its contract. Assumes nothing.
-use mathlib.Core.Path.{_≡_}
 use borrow.Author.Needs.{needs}
 use Rattle.entry.proofs.opening.refused.Statement.{statement}
 use Rattle.entry.proofs.opening.refused.Tie as tie

@@ -1,5 +1,5 @@
 -- `geometry::totals::totals_of` meets its contract. The loop's invariant: the walk has come to an extension, and the places of those before it hold their totals. Assumes nothing.
-use Prim.Native.Nat.{ℕ, _+_, _-_, _≤_}
+use Prim.Native.Nat.{_+_, _-_, _≤_}
 use mathlib.Core.Path.{_≡_, sym, ap, _∙_}
 use native.Mathlib.Omega.{arith}
 use Rattle.words.proofs.Table.{Filling, filling-none, filling-all}
