@@ -1,5 +1,5 @@
 # The commands of this repository; make alone lists them.
-.PHONY: help lib list examples test
+.PHONY: help lib list examples bench test
 
 SHELL := bash
 .SHELLFLAGS := -o pipefail -c
@@ -10,6 +10,7 @@ help:
 	@echo 'make list FILE=examples/a.classic'
 	@echo '                prove and build the listing program, where that is not done yet, and list a file'
 	@echo 'make examples   write the files of examples/ again'
+	@echo 'make bench      time the calls of the library against careful C of the same rules (bench/)'
 	@echo 'make test       prove every crate from nothing, then run every outside test (tests/*/run)'
 
 # Runs rt with a line on standard error for each crate that it proves, none for a crate that has not changed. All that rt
@@ -42,6 +43,9 @@ list:
 
 examples:
 	@examples/write
+
+bench:
+	@bench/run
 
 test:
 	@tests/run

@@ -1,8 +1,9 @@
-/* Times the library's calls against careful C of the same rules (careful.c), both in this process, run by run in turn, and
-   compares their answers while it does. It prints medians of ratios and ends with status 1 where an answer differs.
+/* Times the library's calls against careful C of the same rules (careful.c), both in this process and in turn, and compares
+   their answers and what they write while it does.
 
-   bench            the table of ratios
-   bench --answers  the same calls a moment each, for the answers alone, and then files with changed bytes */
+   bench            prints the table of ratios; status 1 where an answer differs
+   bench --answers  makes the calls for their answers alone, also on files with changed bytes, and counts: 'N passed, M
+                    failed' is its last line */
 #include "careful.h"
 
 #include <stdio.h>
@@ -10,26 +11,26 @@
 #include <string.h>
 #include <time.h>
 
-/* The most bytes of a file, of what is handed to one append, and of an entry's sections. */
+/* The most bytes of a file and of the data of one entry, and the most sections. */
 enum { FILE_BYTES = 1 << 24, DATA_BYTES = 1 << 20, SECTIONS_MAX = 64 };
 
-/* The alternating runs of which the median is taken, and the least nanoseconds of one. */
-enum { RUNS = 41, RUN_NS = 400000 };
+/* The runs of each side, of which the median is taken; the least nanoseconds of one; and the changes made to each file. */
+enum { RUNS = 41, RUN_NS = 300000, CHANGES = 400 };
 
-/* What is timed: a file of these settings with so many entries, each with so many sections and words of data. */
+/* A file: its settings, the bytes lent, its entries, and the sections and words of data of each. */
 typedef struct {
     const char *name;
     int32_t reclen, lind, lex1, gex;
-    size_t entries, sections, data_words;
+    size_t bytes, entries, sections, data_words;
 } shape;
 
-/* A call of one side: the library's or that in C. */
-typedef enum { VALIDATE, EXTENSION, OPEN, INDEX_WORDS, SECTION, DATA, CHECK, APPEND, EXTEND, CALLS } call;
+/* The calls. */
+typedef enum { VALIDATE, EXTENSION, OPEN, INDEX_WORDS, SECTION, DATA, CHECK, APPEND, CALLS } call;
 
-static const char *const call_names[CALLS] = {
-    "validate", "extension", "open", "index words", "section", "data", "order check", "append", "append, extending"};
+static const char *const call_names[CALLS] = {"validate", "extension", "open",        "index words",
+                                              "section",  "data",      "order check", "append"};
 
-/* An answer of any of the calls. */
+/* An answer of any of them. */
 typedef union {
     classic_descriptor descriptor;
     classic_extension extension;
@@ -39,20 +40,18 @@ typedef union {
     classic_appended appended;
 } answer;
 
-/* The file that is read, and one for each side to append to; what is handed to an append. */
+/* What a call took: the ratio, and the nanoseconds on each side. */
+typedef struct {
+    double ratio, library, careful;
+} timing;
+
+/* The file that is read, and one for each side to append to; and what is handed to an append. */
 static uint8_t file[FILE_BYTES], written[2][FILE_BYTES];
 static uint8_t index_words[4 * 256], content[DATA_BYTES];
 static int32_t ids[SECTIONS_MAX];
 static int64_t lengths[SECTIONS_MAX];
 
-static size_t bytes;
 static long compared, differing;
-
-static double now(void) {
-    struct timespec t;
-    clock_gettime(CLOCK_MONOTONIC, &t);
-    return 1e9 * (double)t.tv_sec + (double)t.tv_nsec;
-}
 
 static void stop(const char *fault) {
     fprintf(stderr, "bench: %s\n", fault);
@@ -63,36 +62,36 @@ static void stop(const char *fault) {
 
 static classic_appended append_by(int careful, const shape *s, uint8_t *to) {
     size_t index_bytes = 4 * ((size_t)s->lind - 3), section_bytes = 4 * s->sections, data_bytes = 4 * s->data_words;
-    return careful ? careful_append(to, bytes, 7, index_words, index_bytes, ids, s->sections, lengths, s->sections,
+    return careful ? careful_append(to, s->bytes, 7, index_words, index_bytes, ids, s->sections, lengths, s->sections,
                                     content, section_bytes, content, data_bytes)
-                   : classic_append(to, bytes, 7, index_words, index_bytes, ids, s->sections, lengths, s->sections,
+                   : classic_append(to, s->bytes, 7, index_words, index_bytes, ids, s->sections, lengths, s->sections,
                                     content, section_bytes, content, data_bytes);
 }
 
-/* Makes a call of the library. */
-static void of_library(call c, const shape *s, uint64_t number, answer *a) {
+/* Makes a call of the library: of an entry or an extension by its number, of the section that stands last. */
+static void by_library(call c, const shape *s, uint64_t number, answer *a) {
     switch (c) {
-    case VALIDATE: a->descriptor = classic_validate(file, bytes); break;
-    case EXTENSION: a->extension = classic_extension_of(file, bytes, number); break;
-    case OPEN: a->entry = classic_open(file, bytes, number); break;
-    case INDEX_WORDS: a->part = classic_index_words(file, bytes, number); break;
-    case SECTION: a->part = classic_section(file, bytes, number, (int32_t)s->sections); break;
-    case DATA: a->part = classic_data(file, bytes, number); break;
-    case CHECK: a->checked = classic_check(file, bytes); break;
+    case VALIDATE: a->descriptor = classic_validate(file, s->bytes); break;
+    case EXTENSION: a->extension = classic_extension_of(file, s->bytes, number); break;
+    case OPEN: a->entry = classic_open(file, s->bytes, number); break;
+    case INDEX_WORDS: a->part = classic_index_words(file, s->bytes, number); break;
+    case SECTION: a->part = classic_section(file, s->bytes, number, (int32_t)s->sections); break;
+    case DATA: a->part = classic_data(file, s->bytes, number); break;
+    case CHECK: a->checked = classic_check(file, s->bytes); break;
     default: a->appended = append_by(0, s, written[0]); break;
     }
 }
 
 /* Makes the same call in C. */
-static void of_careful(call c, const shape *s, uint64_t number, answer *a) {
+static void by_careful(call c, const shape *s, uint64_t number, answer *a) {
     switch (c) {
-    case VALIDATE: a->descriptor = careful_validate(file, bytes); break;
-    case EXTENSION: a->extension = careful_extension_of(file, bytes, number); break;
-    case OPEN: a->entry = careful_open(file, bytes, number); break;
-    case INDEX_WORDS: a->part = careful_index_words(file, bytes, number); break;
-    case SECTION: a->part = careful_section(file, bytes, number, (int32_t)s->sections); break;
-    case DATA: a->part = careful_data(file, bytes, number); break;
-    case CHECK: a->checked = careful_check(file, bytes); break;
+    case VALIDATE: a->descriptor = careful_validate(file, s->bytes); break;
+    case EXTENSION: a->extension = careful_extension_of(file, s->bytes, number); break;
+    case OPEN: a->entry = careful_open(file, s->bytes, number); break;
+    case INDEX_WORDS: a->part = careful_index_words(file, s->bytes, number); break;
+    case SECTION: a->part = careful_section(file, s->bytes, number, (int32_t)s->sections); break;
+    case DATA: a->part = careful_data(file, s->bytes, number); break;
+    case CHECK: a->checked = careful_check(file, s->bytes); break;
     default: a->appended = append_by(1, s, written[1]); break;
     }
 }
@@ -106,6 +105,10 @@ static int same_descriptor(const classic_descriptor *a, const classic_descriptor
            a->gex == b->gex && memcmp(a->aex, b->aex, sizeof a->aex) == 0;
 }
 
+static int same_extension(const classic_extension *a, const classic_extension *b) {
+    return a->refusal == b->refusal && a->capacity == b->capacity && a->first == b->first && a->records == b->records;
+}
+
 static int same_entry(const classic_entry *a, const classic_entry *b) {
     return a->refusal == b->refusal && a->record == b->record && a->word == b->word && a->version == b->version &&
            a->nsec == b->nsec && a->nword == b->nword && a->adata == b->adata && a->ldata == b->ldata &&
@@ -116,44 +119,46 @@ static int same_entry(const classic_entry *a, const classic_entry *b) {
 static int same_answer(call c, const answer *a, const answer *b) {
     switch (c) {
     case VALIDATE: return same_descriptor(&a->descriptor, &b->descriptor);
-    case EXTENSION:
-        return a->extension.refusal == b->extension.refusal && a->extension.capacity == b->extension.capacity &&
-               a->extension.first == b->extension.first && a->extension.records == b->extension.records;
+    case EXTENSION: return same_extension(&a->extension, &b->extension);
     case OPEN: return same_entry(&a->entry, &b->entry);
-    case INDEX_WORDS:
-    case SECTION:
-    case DATA:
-        return a->part.refusal == b->part.refusal && a->part.start == b->part.start && a->part.length == b->part.length;
     case CHECK: return a->checked.refusal == b->checked.refusal && a->checked.entry == b->checked.entry;
-    default: return a->appended.refusal == b->appended.refusal && a->appended.number == b->appended.number;
+    case APPEND: return a->appended.refusal == b->appended.refusal && a->appended.number == b->appended.number;
+    default: return a->part.refusal == b->part.refusal && a->part.start == b->part.start && a->part.length == b->part.length;
     }
 }
 
-/* Counts a comparison, and tells the first that differ. */
-static void compare(int same, const char *what, const char *where) {
+/* Makes a call on both sides and compares what they answer, and the two files after an append. */
+static void compare(call c, const shape *s, uint64_t number) {
+    static answer a, b;
+    int same;
+    if (c == APPEND) memcpy(written[0], file, s->bytes), memcpy(written[1], file, s->bytes);
+    by_library(c, s, number, &a);
+    by_careful(c, s, number, &b);
+    same = same_answer(c, &a, &b) && (c != APPEND || memcmp(written[0], written[1], s->bytes) == 0);
     compared++;
-    if (same) return;
-    if (++differing <= 10) printf("DIFFERS %s, %s\n", what, where);
+    if (!same && ++differing <= 10) printf("DIFFERS %s of %llu, %s\n", call_names[c], (unsigned long long)number, s->name);
 }
 
 /* ---- files */
 
-/* Makes a file of a shape: its settings in an order, and its entries. */
+/* Makes a file of a shape in an order. */
 static void make(const shape *s, int32_t order) {
     classic_settings settings = {order, s->reclen, 1, 2, s->lind, 0, s->lex1, s->gex};
-    memset(file, 0, sizeof file);
-    bytes = FILE_BYTES / (4 * (size_t)s->reclen) * (4 * (size_t)s->reclen);
+    memset(file, 0, s->bytes);
     for (size_t i = 0; i < SECTIONS_MAX; i++) ids[i] = (int32_t)i + 1, lengths[i] = 1;
-    if (classic_create(file, bytes, settings) != 0) stop("a file is not created");
+    if (classic_create(file, s->bytes, settings) != 0) stop("a file is not created");
     for (size_t i = 0; i < s->entries; i++) {
         if (append_by(0, s, file).refusal != 0) stop("an entry is not appended");
     }
 }
 
-/* Gives the files that are appended to the first record of the file that is read, so that an append is made again. */
-static void renew(int side, const shape *s) { memcpy(written[side], file, 4 * (size_t)s->reclen); }
-
 /* ---- timing */
+
+static double now(void) {
+    struct timespec t;
+    clock_gettime(CLOCK_MONOTONIC, &t);
+    return 1e9 * (double)t.tv_sec + (double)t.tv_nsec;
+}
 
 static int by_size(const void *a, const void *b) {
     double x = *(const double *)a, y = *(const double *)b;
@@ -165,80 +170,155 @@ static double median(double *numbers, size_t count) {
     return numbers[count / 2];
 }
 
-/* The nanoseconds of so many calls of a side. An append is preceded by what makes it possible again. */
+/* The nanoseconds of so many calls of a side. Before an append the counts of its file are put back, so that it is made
+   again. */
 static double time_of(int careful, call c, const shape *s, uint64_t number, size_t times) {
     static answer a;
     double began = now();
     for (size_t i = 0; i < times; i++) {
-        if (c >= APPEND) renew(careful, s);
-        if (careful) of_careful(c, s, number, &a);
-        else of_library(c, s, number, &a);
+        if (c == APPEND) memcpy(written[careful] + 24, file + 24, 20);
+        if (careful) by_careful(c, s, number, &a);
+        else by_library(c, s, number, &a);
     }
     return now() - began;
 }
 
-/* A ratio, and the nanoseconds of one call on each side. */
-typedef struct {
-    double ratio, library, careful;
-} timing;
-
-/* Times a call on both sides, and compares what they answer and write. */
-static timing timed(call c, const shape *s, uint64_t number, int runs) {
-    static answer a, b;
+/* Times a call on both sides, in turn, and compares its answers. */
+static timing timed(call c, const shape *s, uint64_t number) {
     static double ratios[RUNS], library[RUNS], careful[RUNS];
     timing t;
     size_t times = 1;
-    if (c >= APPEND) memcpy(written[0], file, bytes), memcpy(written[1], file, bytes);
-    of_library(c, s, number, &a);
-    of_careful(c, s, number, &b);
-    compare(same_answer(c, &a, &b), call_names[c], s->name);
-    if (c >= APPEND) compare(memcmp(written[0], written[1], bytes) == 0, "the bytes of an append", s->name);
-    if (runs == 0) return (timing){0, 0, 0};
+    compare(c, s, number);
     while (time_of(1, c, s, number, times) < RUN_NS) times *= 2;
-    for (int i = 0; i < runs; i++) {
+    for (int i = 0; i < RUNS; i++) {
         double first = time_of(i % 2, c, s, number, times), second = time_of(1 - i % 2, c, s, number, times);
         library[i] = i % 2 ? second : first, careful[i] = i % 2 ? first : second;
         ratios[i] = library[i] / careful[i];
     }
-    t.ratio = median(ratios, (size_t)runs);
-    t.library = median(library, (size_t)runs) / (double)times;
-    t.careful = median(careful, (size_t)runs) / (double)times;
+    t.ratio = median(ratios, RUNS);
+    t.library = median(library, RUNS) / (double)times;
+    t.careful = median(careful, RUNS) / (double)times;
     return t;
 }
 
 /* ---- the table */
 
-/* The three shapes of the table. */
-static const shape shapes[3] = {
-    {"no sections, nex 16", 512, 8, 4, 13, 800, 0, 4},
-    {"8 sections", 512, 8, 64, 20, 300, 8, 4},
-    {"64 sections", 512, 8, 64, 20, 300, 64, 4},
+/* The files of the table. */
+static const shape shapes[] = {
+    {"no sections, nex 16", 512, 8, 4, 13, 1 << 20, 800, 0, 4},
+    {"8 sections", 512, 8, 64, 20, 1 << 20, 300, 8, 4},
+    {"64 sections", 512, 8, 64, 20, 1 << 20, 300, 64, 4},
 };
 
-static void row_of(call c, int runs) {
-    printf("%-20s", call_names[c]);
-    for (int i = 0; i < 3; i++) {
-        for (int32_t order = 0; order < 2; order++) {
-            shape s = shapes[i];
-            uint64_t number;
-            timing t;
-            make(&s, order);
-            number = c == EXTENSION ? classic_validate(file, bytes).nex : s.entries;
-            if (c == EXTEND) {
-                while (classic_extension_of(file, bytes, 1).refusal != 0) stop("no extension");
+enum { SHAPES = sizeof shapes / sizeof shapes[0] };
+
+/* The number that a call is asked for: the last entry, or the last extension. */
+static uint64_t last_of(call c, const shape *s) {
+    return c == EXTENSION ? classic_validate(file, s->bytes).nex : s->entries;
+}
+
+static void print_table(void) {
+    double turned = 0;
+    printf("%-14s", "");
+    for (int i = 0; i < SHAPES; i++) printf("  %-19s", shapes[i].name);
+    printf("\n%-14s", "");
+    for (int i = 0; i < SHAPES; i++) printf("  %-9s %-9s", "little", "big");
+    printf("\n");
+    for (call c = VALIDATE; c < CALLS; c++) {
+        printf("%-14s", call_names[c]);
+        for (int i = 0; i < SHAPES; i++) {
+            timing t[2];
+            for (int32_t order = 0; order < 2; order++) {
+                make(&shapes[i], order);
+                t[order] = timed(c, &shapes[i], last_of(c, &shapes[i]));
             }
-            t = timed(c, &s, number, runs);
-            if (runs != 0) printf("%6.2f (%5.0f/%5.0f)", t.ratio, t.library, t.careful);
+            printf("  %-9.2f %-9.2f", t[0].ratio, t[1].ratio);
+            if (t[1].library / t[0].library > turned) turned = t[1].library / t[0].library;
+        }
+        printf("\n");
+    }
+    printf("\nbig-endian over little-endian, the library's own, at most: %.2f\n", turned);
+}
+
+/* Prints a row of its own: a ratio, and the nanoseconds of both sides for each of so many. */
+static void print_row(const char *what, call c, const shape *s, size_t each) {
+    timing t;
+    make(s, CLASSIC_LITTLE);
+    t = timed(c, s, last_of(c, s));
+    printf("%-44s %5.2f   %8.1f ns, in C %8.1f ns\n", what, t.ratio, t.library / (double)each, t.careful / (double)each);
+}
+
+static void print_growth(void) {
+    shape none = {"nex 0", 512, 8, 4, 13, 1 << 20, 0, 0, 4}, wide = {"reclen 4,096", 4096, 8, 4, 13, 1 << 20, 8, 0, 4};
+    shape few = {"1,000 entries", 512, 8, 1000, 10, 1 << 20, 1000, 0, 4};
+    shape many = {"65,536 entries", 512, 8, 4096, 10, FILE_BYTES, 65536, 0, 4};
+    shape long_data = {"1 MiB", 512, 8, 64, 20, 1 << 22, 2, 1, DATA_BYTES / 4};
+    print_row("append of 1 MiB", APPEND, &long_data, 1);
+    print_row("validate, nex 0", VALIDATE, &none, 1);
+    print_row("validate, nex 16", VALIDATE, &shapes[0], 1);
+    print_row("validate, reclen 4,096", VALIDATE, &wide, 1);
+    print_row("order check, an entry of 1,000", CHECK, &few, few.entries);
+    print_row("order check, an entry of 65,536 in 16 extensions", CHECK, &many, many.entries);
+}
+
+/* ---- the answers alone */
+
+static uint32_t random_state = 1;
+
+static uint32_t random_number(void) {
+    random_state = random_state * 1664525 + 1013904223;
+    return random_state >> 8;
+}
+
+/* Compares all calls on the file as it is, for some numbers of entries and extensions. */
+static void compare_all(const shape *s) {
+    uint64_t numbers[] = {0, 1, s->entries / 2, s->entries, s->entries + 1};
+    for (size_t i = 0; i < sizeof numbers / sizeof numbers[0]; i++) {
+        for (call c = EXTENSION; c <= DATA; c++) compare(c, s, c == EXTENSION ? numbers[i] % 19 : numbers[i]);
+    }
+    compare(VALIDATE, s, 0);
+    compare(CHECK, s, 0);
+    compare(APPEND, s, 0);
+}
+
+/* Changes a byte of the first record, of an index area or of an entry, compares, and puts it back. */
+static void compare_changed(const shape *s) {
+    classic_entry e = classic_open(file, s->bytes, 1 + random_number() % s->entries);
+    size_t at = random_number() % 200, part = random_number() % 3;
+    uint8_t before;
+    if (part == 1) at = (e.record - 1) * 4 * (size_t)s->reclen + 4 * (e.word - 1) + random_number() % (44 + 20 * e.nsec);
+    if (part == 2) at = 4 * (size_t)s->reclen + random_number() % 96;
+    before = file[at];
+    file[at] = random_number() % 2 ? (uint8_t)random_number() : (uint8_t)(before ^ 1u << random_number() % 8);
+    compare_all(s);
+    file[at] = before;
+}
+
+static int count_answers(void) {
+    int passed = 0, failed = 0;
+    for (int i = 0; i < SHAPES; i++) {
+        for (int32_t order = 0; order < 2; order++) {
+            long before = differing, from = compared;
+            make(&shapes[i], order);
+            compare_all(&shapes[i]);
+            for (int k = 0; k < CHANGES; k++) compare_changed(&shapes[i]);
+            if (differing == before) passed++;
+            else failed++;
+            printf("%s %s, order %d: %ld answers agree\n", differing == before ? "ok" : "FAILED", shapes[i].name, (int)order,
+                   compared - from - (differing - before));
         }
     }
-    printf("\n");
+    printf("%d passed, %d failed\n", passed, failed);
+    return failed != 0;
 }
 
 int main(int argc, char **argv) {
-    int runs = argc == 2 && strcmp(argv[1], "--answers") == 0 ? 0 : RUNS;
     for (size_t i = 0; i < sizeof content; i++) content[i] = (uint8_t)(i % 251 + 1);
     for (size_t i = 0; i < sizeof index_words; i++) index_words[i] = (uint8_t)(i % 241 + 1);
-    for (call c = VALIDATE; c <= APPEND; c++) row_of(c, runs);
-    printf("%ld compared, %ld differ\n", compared, differing);
+    if (argc == 2 && strcmp(argv[1], "--answers") == 0) return count_answers();
+    if (argc != 1) stop("usage: bench [--answers]");
+    print_table();
+    print_growth();
+    printf("\n%ld answers compared, %ld differ\n", compared, differing);
     return differing != 0;
 }
