@@ -1,6 +1,6 @@
 // The extensions of a file.
-use super::areas::aex_in;
-use super::validating::admit;
+use super::inner::admit;
+use super::inner::aex_in;
 use geometry::ExtensionNumber;
 use geometry::RecordNumber;
 use geometry::area_records;

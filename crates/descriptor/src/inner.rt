@@ -1,7 +1,13 @@
 // What the crates above ask of a file that they validate, and of validated numbers.
-pub use super::addresses::addresses_of;
-pub use super::areas::aex_in;
-pub use super::derived::free_position;
-pub use super::derived::mex;
-pub use super::slots::slot_in_use;
-pub use super::validating::admit;
+pub(crate) mod addresses;
+mod admitting;
+pub(crate) mod areas;
+pub(crate) mod derived;
+mod slots;
+
+pub use addresses::addresses_of;
+pub use admitting::admit;
+pub use areas::aex_in;
+pub use derived::free_position;
+pub use derived::mex;
+pub use slots::slot_in_use;

@@ -1,5 +1,5 @@
 // The rules of a first record, tested in the order of their table.
-use super::derived::mex;
+use super::inner::mex;
 use super::numbers::DescriptorNumbers;
 use geometry::Growth;
 use geometry::byte_offset;

@@ -1,6 +1,6 @@
 // The one walk over the extensions in use, by which a file is validated.
-use super::areas::aex_in;
-use super::areas::after_area;
+use super::inner::aex_in;
+use super::inner::areas::after_area;
 use super::numbers::DescriptorNumbers;
 use geometry::Growth;
 use geometry::RecordNumber;

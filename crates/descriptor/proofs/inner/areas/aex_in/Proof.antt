@@ -1,10 +1,10 @@
--- `descriptor::areas::aex_in` meets its contract. Assumes nothing.
+-- `descriptor::inner::areas::aex_in` meets its contract. Assumes nothing.
 use mathlib.Core.Path.{ap}
 use native.Mathlib.Omega.{arith}
 use borrow.Author.Needs.{needs}
 use Rattle.geometry.specs.declared.units.WordNumber.{WordNumber}
-use Rattle.descriptor.proofs.areas.aex_in.Statement.{statement}
-use Rattle.descriptor.proofs.areas.aex_in.Tie as tie
+use Rattle.descriptor.proofs.inner.areas.aex_in.Statement.{statement}
+use Rattle.descriptor.proofs.inner.areas.aex_in.Tie as tie
 
 pub aex-in-spec : {M : Type 1} → statement M
 aex-in-spec =

@@ -1,4 +1,4 @@
--- `descriptor::areas::after_area` meets its contract. Assumes nothing.
+-- `descriptor::inner::areas::after_area` meets its contract. Assumes nothing.
 use mathlib.Core.Path.{_≡_}
 use mathlib.Core.Bool.{true}
 use native.Mathlib.Omega.{arith}
@@ -11,8 +11,8 @@ use Rattle.words.proofs.Ranges.{atLeast-bounds}
 use Rattle.descriptor.specs.Walking.{areaAdded}
 use Rattle.descriptor.proofs.Tests.{holds, broken}
 use Rattle.descriptor.proofs.AreaOrder.{records-small}
-use Rattle.descriptor.proofs.areas.after_area.Statement.{statement}
-use Rattle.descriptor.proofs.areas.after_area.Tie as tie
+use Rattle.descriptor.proofs.inner.areas.after_area.Statement.{statement}
+use Rattle.descriptor.proofs.inner.areas.after_area.Tie as tie
 
 -- what the second test says of the first record
 late : (c : tie.Else2) → let a = c .before .before .before .before .args in atLeast (a .after .0) (signedOf w64 (a .first .0)) ≡ true

@@ -1,5 +1,5 @@
 // What follows from the numbers of a first record: mex, and the next free position.
-use super::numbers::DescriptorNumbers;
+use crate::numbers::DescriptorNumbers;
 use geometry::Growth;
 use geometry::position;
 ghost use Prim.Native.Nat.{_≤_};

@@ -1,12 +1,12 @@
--- `descriptor::addresses::addresses_of` meets its contract. The loop's invariant: the places passed hold their addresses, the others zero. Assumes nothing.
+-- `descriptor::inner::addresses::addresses_of` meets its contract. The loop's invariant: the places passed hold their addresses, the others zero. Assumes nothing.
 use mathlib.Core.Path.{_≡_, ap}
 use Prim.Native.Nat.{_+_, _-_}
 use native.Mathlib.Omega.{arith}
 use Rattle.words.proofs.Table.{Filling, filling-none, filling-next, filling-all}
 use Rattle.geometry.specs.declared.units.WordNumber.{WordNumber}
 use Rattle.descriptor.specs.FirstRecord.{aexAt, addressesOf}
-use Rattle.descriptor.proofs.addresses.addresses_of.Statement.{statement}
-use Rattle.descriptor.proofs.addresses.addresses_of.Tie as tie
+use Rattle.descriptor.proofs.inner.addresses.addresses_of.Statement.{statement}
+use Rattle.descriptor.proofs.inner.addresses.addresses_of.Tie as tie
 
 abbrev Inv-loop : tie.InvT-loop
 Inv-loop order file nex table₀ filled₀ table filled = Filling 16 nex (aexAt file) (record { 0 = 0 }) table filled

@@ -1,4 +1,4 @@
--- `descriptor::validating::admit` meets its contract: the parts of the table are tested in turn. Assumes nothing.
+-- `descriptor::inner::admitting::admit` meets its contract: the parts of the table are tested in turn. Assumes nothing.
 use Prim.Native.Nat.{ℕ, _/_, _^_, _<_}
 use mathlib.Core.Path.{_≡_, refl, sym, ap, subst, _∙_}
 use mathlib.Core.Bool.{true, false, _&&_}
@@ -23,8 +23,8 @@ use Rattle.descriptor.proofs.Passed.{limited, settled, lent, setting-pa
 use Rattle.descriptor.proofs.AreaOrder.{hold-is}
 use Rattle.descriptor.proofs.Walks.{walked-over, walked-after, walked-holding, walked-totals}
 use Rattle.descriptor.proofs.Answered.{file-order, filling-parts, case-refused, totals-settled, totals-unsettled, settings-refused, filling-refused, leftovers-refused, none-refused}
-use Rattle.descriptor.proofs.validating.admit.Statement.{statement}
-use Rattle.descriptor.proofs.validating.admit.Tie as tie
+use Rattle.descriptor.proofs.inner.admitting.admit.Statement.{statement}
+use Rattle.descriptor.proofs.inner.admitting.admit.Tie as tie
 
 -- the places on the way, and the file
 abbrev start : tie.After-slice-known → tie.Start

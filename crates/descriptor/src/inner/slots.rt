@@ -1,5 +1,5 @@
 // The slot of an entry among those of the extensions in use.
-use super::numbers::DescriptorNumbers;
+use crate::numbers::DescriptorNumbers;
 use geometry::EntryNumber;
 use geometry::ExtensionNumber;
 use geometry::Slot;

@@ -1,4 +1,4 @@
--- `descriptor::slots::slot_in_use` meets its contract. The loop's invariant: the extensions passed do not reach the entry. Assumes nothing.
+-- `descriptor::inner::slots::slot_in_use` meets its contract. The loop's invariant: the extensions passed do not reach the entry. Assumes nothing.
 use mathlib.Core.Path.{_≡_, sym, ap, _∙_}
 use Prim.Native.Nat.{ℕ, _+_, _-_, _≤_, _<_}
 use native.Mathlib.Omega.{arith}
@@ -11,8 +11,8 @@ use Rattle.geometry.proofs.Capacities.{total-none, total-before, total-last, ca
 use Rattle.geometry.proofs.TotalTables.{totals-length, totals-at}
 use Rattle.geometry.proofs.Slots.{Holds, slot-held}
 use Rattle.descriptor.specs.FirstRecord.{growthIn}
-use Rattle.descriptor.proofs.slots.slot_in_use.Statement.{statement}
-use Rattle.descriptor.proofs.slots.slot_in_use.Tie as tie
+use Rattle.descriptor.proofs.inner.slots.slot_in_use.Statement.{statement}
+use Rattle.descriptor.proofs.inner.slots.slot_in_use.Tie as tie
 
 abbrev Inv-loop : tie.InvT-loop
 Inv-loop d totals entry before₀ passed₀ before passed = (before ≡ totalOf (growthIn d) passed) × (before < entry .0)

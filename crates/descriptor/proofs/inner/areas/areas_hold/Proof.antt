@@ -1,9 +1,9 @@
--- `descriptor::areas::areas_hold` meets its contract. Assumes nothing.
+-- `descriptor::inner::areas::areas_hold` meets its contract. Assumes nothing.
 use borrow.Author.Needs.{needs}
 use borrow.Author.Tests.{eq-eqb, ne-eqb}
 use Rattle.descriptor.specs.Walking.{areasHold}
-use Rattle.descriptor.proofs.areas.areas_hold.Statement.{statement}
-use Rattle.descriptor.proofs.areas.areas_hold.Tie as tie
+use Rattle.descriptor.proofs.inner.areas.areas_hold.Statement.{statement}
+use Rattle.descriptor.proofs.inner.areas.areas_hold.Tie as tie
 
 pub areas-hold-spec : {M : Type 1} → statement M
 unfolding areasHold

@@ -1,9 +1,9 @@
--- `descriptor::derived::mex` meets its contract. Assumes nothing.
+-- `descriptor::inner::derived::mex` meets its contract. Assumes nothing.
 use native.Mathlib.Omega.{arith}
 use Rattle.descriptor.specs.FirstRecord.{mexOf}
 use borrow.Author.Needs.{needs}
-use Rattle.descriptor.proofs.derived.mex.Statement.{statement}
-use Rattle.descriptor.proofs.derived.mex.Tie as tie
+use Rattle.descriptor.proofs.inner.derived.mex.Statement.{statement}
+use Rattle.descriptor.proofs.inner.derived.mex.Tie as tie
 
 pub mex-spec : {M : Type 1} → statement M
 unfolding mexOf
