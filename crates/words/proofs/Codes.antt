@@ -1,7 +1,7 @@
--- Laws of codes: four bytes compared one by one, and lists that are the same. Assumes nothing.
-use Prim.Native.Nat.{ℕ, suc, _+_, _≤_, _<_}
-use mathlib.Core.Path.{_≡_, refl, ap, ap₂}
-use mathlib.Core.Bool.{true, false, _&&_}
+-- Laws of codes: lists that are the same, and bytes that are by their number. Assumes nothing.
+use Prim.Native.Nat.{ℕ, suc, _<_}
+use mathlib.Core.Path.{_≡_, refl, sym, ap, ap₂, _∙_}
+use mathlib.Core.Bool.{true, false}
 use mathlib.Core.List.{List, [], _∷_}
 use native.Mathlib.Omega.{arith}
 use mathlib.Mathlib.Data.Bool.Basic.{and-eq-true-eq-eq-true-and-eq-true}
@@ -9,16 +9,9 @@ use borrow.Author.Tests.{eqb-true, eq-eqb}
 use lib.Dec.{eqb}
 use lib.ListN.{length, getD}
 use Rattle.outcome.proofs.Either.{either}
-use Rattle.image.specs.Image.{part}
 use Rattle.words.specs.Code.{sameNumbers}
-use Rattle.words.proofs.Access.{part-four}
-
--- the comparison in four tests
-pub same-four : (image : List ℕ) (at a b c d : ℕ) → at + 4 ≤ length image
-    → sameNumbers (part image at 4) (a ∷ b ∷ c ∷ d ∷ [])
-    ≡ eqb (getD image at 0) a && (eqb (getD image (at + 1) 0) b && (eqb (getD image (at + 2) 0) c && (eqb (getD image (at + 3) 0) d && true)))
-unfolding sameNumbers
-same-four image at a b c d h = ap (λ (l : List ℕ). sameNumbers l (a ∷ b ∷ c ∷ d ∷ [])) (part-four image at h)
+use Rattle.words.specs.Word.{littleNumber}
+use Rattle.words.proofs.Number.{Bytes, little-equal}
 
 -- a list is the same as itself
 pub same-self : (xs : List ℕ) → sameNumbers xs xs ≡ true
@@ -57,3 +50,14 @@ same-next {x} {y} xs ys e = rw (eq-eqb x y e)
 pub same-one : (x y : ℕ) → sameNumbers (x ∷ []) (y ∷ []) ≡ eqb x y
 unfolding sameNumbers
 same-one x y = either (eqb x y) (λ q. rw q) (λ q. rw q)
+
+-- lists that stand for different numbers are not the same
+differ-number : (xs ys : List ℕ) → eqb (littleNumber xs) (littleNumber ys) ≡ false → sameNumbers xs ys ≡ false
+differ-number xs ys d = either (sameNumbers xs ys) (λ q. q ∙ sym (eq-eqb _ _ (ap littleNumber (same-equal xs ys q))) ∙ d) (λ q. q)
+
+-- bytes are the same as as many others where the two stand for one number, and nowhere else
+pub same-number : (xs ys : List ℕ) → Bytes xs → Bytes ys → length xs ≡ length ys → eqb (littleNumber xs) (littleNumber ys) ≡ sameNumbers xs ys
+same-number xs ys h k e =
+    either (eqb (littleNumber xs) (littleNumber ys))
+    (λ q. q ∙ sym (ap (sameNumbers xs) (sym (little-equal xs ys h k e (eqb-true _ _ q))) ∙ same-self xs))
+    (λ q. q ∙ sym (differ-number xs ys q))

@@ -1,6 +1,6 @@
 -- Laws of `number` and `numeral`, over the order and the width: lengths, the number read back from its bytes, bytes turned by their number, and the number 0. Assumes nothing.
 use Prim.Native.Nat.{ℕ, zero, suc, _+_, _*_, _/_, _%_, _^_, _<_}
-use mathlib.Core.Path.{_≡_, refl, sym, ap, _∙_, subst}
+use mathlib.Core.Path.{_≡_, refl, sym, ap, ap₂, _∙_, subst}
 use mathlib.Core.Bool.{Bool, true, false, _&&_, and-assoc, and-comm, and-true}
 use mathlib.Core.List.{List, [], _∷_, _++_, reverse, reverseAux, reverse-reverse, reverse-append}
 use native.Mathlib.Omega.{arith}
@@ -78,6 +78,10 @@ numeral-back (b ∷ bs) h =
     let low : (b + 256 * littleNumber bs) % 256 ≡ b = omega arith in
     let rest : (b + 256 * littleNumber bs) / 256 ≡ littleNumber bs = omega arith in
     rw (low, rest, numeral-back bs (h .1))
+
+-- as many bytes that stand for the same number are the same
+pub little-equal : (xs ys : List ℕ) → Bytes xs → Bytes ys → length xs ≡ length ys → littleNumber xs ≡ littleNumber ys → xs ≡ ys
+little-equal xs ys h k e n = sym (numeral-back xs h) ∙ ap₂ littleNumeral e n ∙ numeral-back ys k
 
 -- eight bytes of a number are those of its lower half and then those of its upper half
 numeral-halves : (x : ℕ) → x < 2 ^ 64 → littleNumeral 8 x ≡ littleNumeral 4 (x % 4294967296) ++ littleNumeral 4 (x / 4294967296)

@@ -1,4 +1,6 @@
-// Comparing four bytes of an image with a code.
+// Comparing four bytes of an image with a code: the two numbers that they stand for are compared.
+use super::read::little4;
+use super::read::word;
 ghost use mathlib.Core.List.{[], _∷_};
 ghost use Prim.Native.Nat.{_+_, _≤_};
 ghost use lib.ListN.{length};
@@ -11,14 +13,5 @@ pub fn code_at(image: &[u8], at: usize, a: u8, b: u8, c: u8, d: u8) -> bool
     requires { ⌜ at + 4 ≤ length (now image) ⌝ }
     ensures { λ r. ⌜ Answers (sameNumbers (part (now (image .entry)) at 4) (a ∷ b ∷ c ∷ d ∷ [])) r ⌝ }
 {
-    if image[at] != a {
-        return false;
-    }
-    if image[at + 1] != b {
-        return false;
-    }
-    if image[at + 2] != c {
-        return false;
-    }
-    image[at + 3] == d
+    little4(image, at) == word(a, b, c, d)
 }

@@ -12,7 +12,7 @@ ghost use Rattle.image.specs.Image.{part};
 ghost use Rattle.words.specs.Word.{littleNumber, integer4, integer8, bitsAt, signedAt};
 
 // The number that four bytes stand for, the least significant first.
-fn word(a: u8, b: u8, c: u8, d: u8) -> u32
+pub(crate) fn word(a: u8, b: u8, c: u8, d: u8) -> u32
     ensures { λ r. ⌜ Answers (littleNumber (a ∷ b ∷ c ∷ d ∷ [])) r ⌝ }
 {
     (a as u32) + 256 * (b as u32) + 65536 * (c as u32) + 16777216 * (d as u32)
