@@ -92,13 +92,12 @@ pub extern "C" fn classic_open(file: &[u8], entry: u64) -> ClassicEntry
     if admitted.refusal != 0 {
         return no_entry(admitted.refusal);
     }
-    let d = admitted.numbers;
-    let entered = enter(file, d, &totals, EntryNumber(entry));
+    let entered = enter(file, admitted.numbers, &totals, EntryNumber(entry));
     if entered.refusal != 0 {
         return no_entry(entered.refusal);
     }
     if entered.nsec == 0 {
         return entry_having(entered, [0i32; PLACES], [0u64; PLACES], [0u64; PLACES]);
     }
-    entry_read(d.order, file, entered)
+    entry_read(admitted.numbers.order, file, entered)
 }

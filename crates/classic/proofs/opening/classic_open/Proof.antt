@@ -22,7 +22,7 @@ shown : (c : tie.Else1) → let a = called c in Admits (now (a .before .before .
 shown c = let a = called c .admit in case-told _ (a .result) (a .ensures .0) (a .ensures .1) (c .if1 .left)
 
 abbrev admitted-at : tie.After-enter → tie.Else1
-admitted-at c = c .before .before .before
+admitted-at c = c .before .before
 
 -- the answer is made of what was entered
 answer : (c : tie.After-enter) → let a = called (admitted-at c) .before .before .before .args in
@@ -58,7 +58,7 @@ classic-open-spec =
     (λ c κs. search needs)
     returns
     (λ c. search needs)
-    (λ c κs. let p = shown (c .before .before) in (p .admitted, p .table))
+    (λ c κs. let p = shown (c .before) in (p .admitted, p .table))
     (λ c κs. search needs)
     returns-2
     (λ c κs. fits (c .before .before))
