@@ -30,8 +30,9 @@ typedef enum { VALIDATE, EXTENSION, OPEN, INDEX_WORDS, SECTION, DATA, CHECK, APP
 static const char *const call_names[CALLS] = {"validate", "extension", "open",        "index words",
                                               "section",  "data",      "order check", "append"};
 
-/* An answer of any of them. */
+/* An answer of any of them, in whole lines of 64 bytes. */
 typedef union {
+    uint8_t lines[21][64];
     classic_descriptor descriptor;
     classic_extension extension;
     classic_entry entry;
@@ -170,15 +171,16 @@ static double median(double *numbers, size_t count) {
     return numbers[count / 2];
 }
 
-/* The nanoseconds of so many calls of a side. Before an append the counts of its file are put back, so that it is made
-   again. */
-static double time_of(int careful, call c, const shape *s, uint64_t number, size_t times) {
-    static answer a;
+/* The nanoseconds of so many calls of a side, in a run. Before an append the counts of its file are put back, so that it is
+   made again. Each run has its answers at another place of a page: where an answer lies at the place of the table that it is
+   copied from, the copy takes longer. */
+static double time_of(int careful, call c, const shape *s, uint64_t number, size_t times, int run) {
+    static answer answers[RUNS];
     double began = now();
     for (size_t i = 0; i < times; i++) {
         if (c == APPEND) memcpy(written[careful] + 24, file + 24, 20);
-        if (careful) by_careful(c, s, number, &a);
-        else by_library(c, s, number, &a);
+        if (careful) by_careful(c, s, number, &answers[run]);
+        else by_library(c, s, number, &answers[run]);
     }
     return now() - began;
 }
@@ -189,9 +191,9 @@ static timing timed(call c, const shape *s, uint64_t number) {
     timing t;
     size_t times = 1;
     compare(c, s, number);
-    while (time_of(1, c, s, number, times) < RUN_NS) times *= 2;
+    while (time_of(1, c, s, number, times, 0) < RUN_NS) times *= 2;
     for (int i = 0; i < RUNS; i++) {
-        double first = time_of(i % 2, c, s, number, times), second = time_of(1 - i % 2, c, s, number, times);
+        double first = time_of(i % 2, c, s, number, times, i), second = time_of(1 - i % 2, c, s, number, times, i);
         library[i] = i % 2 ? second : first, careful[i] = i % 2 ? first : second;
         ratios[i] = library[i] / careful[i];
     }
