@@ -45,6 +45,7 @@ examples:
 	@examples/write
 
 bench:
+	@echo 'make bench: proving the library first, where that is not done yet, a few minutes the first time ..' >&2
 	@bench/run
 
 test:
