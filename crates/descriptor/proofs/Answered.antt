@@ -17,7 +17,6 @@ use Rattle.descriptor.specs.declared.numbers.DescriptorNumbers.{Descript
 use Rattle.descriptor.specs.declared.validating.Validated.{Validated}
 use Rattle.descriptor.specs.declared.validating.Validated.the-variants.{Numbers, Refused}
 use Rattle.descriptor.specs.declared.validating.Validation.{Validation}
-use Rattle.descriptor.specs.declared.validating.ValidatedCase.{ValidatedCase}
 use Rattle.layout.specs.FileCode.{byteOrderOf}
 use Rattle.descriptor.specs.Refusal.{Rule, row, refusalIn}
 use Rattle.descriptor.specs.FirstRecord.{numbersOf, addressesOf, growthIn}
@@ -120,14 +119,6 @@ module _ (file : List ℕ) where
       ∙ ap (λ (n : ℕ). cond (eqb (refusalIn (countRules (length file) d)) 0) n (refusalIn (countRules (length file) d)))
       (either (areasStart d addresses (d .nex)) (λ q. rw q refl) (λ q. rw q refl))
 
-  -- what it comes to where it is not refused
-  pub case-numbers : fileRefusal file ≡ 0 → caseOf file ≡ record { refusal = 0; numbers = d }
-  case-numbers e = ap (λ (v : Validation). validatedCase (v .numbers)) (answer-numbers e)
-
-  -- and where it is
-  pub case-refused : (n : ℕ) → fileRefusal file ≡ n → eqb n 0 ≡ false → caseOf file ≡ validatedCase (Refused n)
-  case-refused n e h = ap (λ (v : Validation). validatedCase (v .numbers)) (answer-refused n e h)
-
   -- the totals of a file whose settings pass
   pub totals-settled : leb 64 (length file) ≡ true → settingRefusal (length file) d ≡ 0 → totalsIn file ≡ totalsOf (growthIn d) (d .nex)
   unfolding totalsIn
@@ -141,56 +132,62 @@ module _ (file : List ℕ) where
   -- a file of 64 bytes and more, part by part of its table
   module _ (h : leb 64 (length file) ≡ true) where
     -- refused by its settings
-    pub settings-refused : (n : ℕ) → settingRefusal (length file) d ≡ n → eqb n 0 ≡ false → (caseOf file ≡ validatedCase (Refused n)) × (totalsIn file ≡ replicate 16 0)
-    settings-refused n e other = (case-refused n (file-rest h ∙ rw (e, other)) other, totals-unsettled true h (rw (e, other)))
+    pub settings-refused : (n : ℕ) → settingRefusal (length file) d ≡ n → eqb n 0 ≡ false → (fileRefusal file ≡ n) × (totalsIn file ≡ replicate 16 0)
+    settings-refused n e other = (file-rest h ∙ rw (e, other), totals-unsettled true h (rw (e, other)))
 
     module _ (e : settingRefusal (length file) d ≡ 0) where
       -- refused by how far it is filled
-      pub filling-refused : (n : ℕ) → fillingRefusal (length file) d (addressesOf file (d .nex)) ≡ n → eqb n 0 ≡ false → caseOf file ≡ validatedCase (Refused n)
-      filling-refused n f other = case-refused n (file-rest h ∙ rw (e, f, other)) other
+      pub filling-refused : (n : ℕ) → fillingRefusal (length file) d (addressesOf file (d .nex)) ≡ n → eqb n 0 ≡ false → fileRefusal file ≡ n
+      filling-refused n f other = file-rest h ∙ rw (e, f, other)
 
-      module _ (f : fillingRefusal (length file) d (addressesOf file (d .nex)) ≡ 0) where
-        -- refused by its leftovers
-        pub leftovers-refused : noLeftovers file d ≡ false → caseOf file ≡ validatedCase (Refused 29)
-        leftovers-refused l = case-refused 29 (file-rest h ∙ rw (e, f, l)) refl
+      -- refused by its leftovers, or not refused
+      pub leftovers-refused : {b : Bool} → fillingRefusal (length file) d (addressesOf file (d .nex)) ≡ 0 → noLeftovers file d ≡ b → fileRefusal file ≡ cond b 0 29
+      leftovers-refused f l = file-rest h ∙ rw (e, f, l)
 
-        -- and not refused
-        pub none-refused : noLeftovers file d ≡ true → caseOf file ≡ record { refusal = 0; numbers = d }
-        none-refused l = case-numbers (file-rest h ∙ rw (e, f, l))
+  -- taken apart: a case that gives numbers gives the file's own, which are admitted, and the totals left are theirs
+  pub record Admits (n : DescriptorNumbers) (totals : List ℕ) : Type 0 where
+    pub numbers : n ≡ d
+    pub validation : validationOf file ≡ record { refusal = 0; numbers = Numbers n; addresses = addressesOf file (n .nex) }
+    pub admitted : AdmittedIn file n (addressesOf file (n .nex))
+    pub table : TotalsOf n totals
 
-  -- taken apart: a case with no refusal has the file's own numbers, which are admitted, and the totals left are theirs
-  pub record Admits (c : ValidatedCase) (totals : List ℕ) : Type 0 where
-    pub numbers : c .numbers ≡ d
-    pub validation : validationOf file ≡ record { refusal = 0; numbers = Numbers (c .numbers); addresses = addressesOf file (c .numbers .nex) }
-    pub admitted : AdmittedIn file (c .numbers) (addressesOf file (c .numbers .nex))
-    pub table : TotalsOf (c .numbers) totals
+  -- and one with a refusal gives the number that validating does
+  pub record Refuses (n : ℕ) : Type 0 where
+    pub validation : validationOf file ≡ noValidation n
+    pub broken : n ≡ 0 → ⊥
 
-  module _ (c : ValidatedCase) (e : c ≡ caseOf file) where
-    -- what a case with no refusal shows
-    pub case-told : {totals : List ℕ} → totals ≡ totalsIn file → c .refusal ≡ 0 → Admits c totals
-    case-told t q =
+  -- what a file with no refusal shows, of its own numbers
+  pub admits : {n : DescriptorNumbers} {totals : List ℕ} → n ≡ d → totals ≡ totalsIn file → fileRefusal file ≡ 0 → Admits n totals
+  admits numbers t z =
+      let p = file-passed z in
+      record {
+        numbers = numbers;
+        validation = rw numbers (answer-numbers z);
+        admitted = rw numbers (record { admitted = file-admitted z; order = file-order });
+        table = rw numbers (t ∙ totals-settled (le-leb 64 (length file) (p .long)) (p .settings));
+      }
+
+  -- and what one with a refusal does, whose number was found
+  pub refuses-by : {n : ℕ} → n ≡ fileRefusal file → (n ≡ 0 → ⊥) → Refuses n
+  refuses-by {n} e z = record { validation = answer-refused n (sym e) (ne-eqb n 0 z); broken = z }
+
+  module _ (case : Validated) (e : case ≡ caseOf file) where
+    -- what a case that gives numbers shows
+    pub case-told : {n : DescriptorNumbers} {totals : List ℕ} → totals ≡ totalsIn file → case ≡ Numbers n → Admits n totals
+    case-told {n} t q = let w = told (validationOf file) n refl (sym e ∙ q) in admits (w .numbers) t (w .refusal)
+
+    -- and what a case with a refusal does, whose number was asked for
+    pub case-left : {n r : ℕ} → r ≡ validatedCase case .refusal → case ≡ Refused n → Refuses r
+    case-left {n} {r} k q =
         elim (ℕ-discrete (fileRefusal file) 0) [
           | yes z ↦
-              let numbers : c .numbers ≡ d = ap (λ (x : ValidatedCase). x .numbers) (e ∙ case-numbers z) in
-              let p = file-passed z in
-              record {
-                numbers = numbers;
-                validation = rw numbers (answer-numbers z);
-                admitted = rw numbers (record { admitted = file-admitted z; order = file-order });
-                table = rw numbers (t ∙ totals-settled (le-leb 64 (length file) (p .long)) (p .settings));
-              }
-          | no z ↦ absurd (z (sym (ap (λ (x : ValidatedCase). x .refusal) (e ∙ case-refused (fileRefusal file) refl (ne-eqb (fileRefusal file) 0 z))) ∙ q))
-        ]
-
-    -- and what a case with a refusal does
-    pub case-left : (c .refusal ≡ 0 → ⊥) → validationOf file ≡ noValidation (c .refusal)
-    case-left q =
-        elim (ℕ-discrete (fileRefusal file) 0) [
-          | yes z ↦ absurd (q (ap (λ (x : ValidatedCase). x .refusal) (e ∙ case-numbers z)))
+              let w = sym q ∙ e ∙ ap (λ (v : Validation). v .numbers) (answer-numbers z) in
+              let never : _≡_ {A = ℕ} 0 1 = cc in
+              absurd (omega arith)
           | no z ↦
-              let other = ne-eqb (fileRefusal file) 0 z in
-              let number : c .refusal ≡ fileRefusal file = ap (λ (x : ValidatedCase). x .refusal) (e ∙ case-refused (fileRefusal file) refl other) in
-              rw number (answer-refused (fileRefusal file) refl other)
+              let whole = answer-refused (fileRefusal file) refl (ne-eqb (fileRefusal file) 0 z) in
+              let number : r ≡ fileRefusal file = k ∙ ap (λ (c : Validated). validatedCase c .refusal) (e ∙ ap (λ (v : Validation). v .numbers) whole) in
+              refuses-by number (λ q. z (sym number ∙ q))
         ]
 
   -- an extension, by the validation's case

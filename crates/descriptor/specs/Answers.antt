@@ -55,9 +55,9 @@ abbrev pub validatedCase : Validated → ValidatedCase
 validatedCase (Numbers d) = record { refusal = 0; numbers = d }
 validatedCase (Refused n) = record { refusal = n; numbers = noNumbers }
 
--- what validating a file comes to: 0 and its numbers, or the refusal and zeros
-abbrev pub caseOf : List ℕ → ValidatedCase
-caseOf file = validatedCase (validationOf file .numbers)
+-- the case of a file's validation: its numbers, or the refusal
+abbrev pub caseOf : List ℕ → Validated
+caseOf file = validationOf file .numbers
 
 -- a refused extension: the number, and zeros
 abbrev pub noExtension : ℕ → Extension

@@ -1,6 +1,8 @@
 // The extensions of a file.
 use super::inner::admit;
 use super::inner::aex_in;
+use super::validating::Validated;
+use super::validating::refusal_of;
 use geometry::ExtensionNumber;
 use geometry::RecordNumber;
 use geometry::area_records;
@@ -34,11 +36,10 @@ pub fn extension_of(file: &[u8], number: ExtensionNumber) -> Extension
     ensures { λ r. ⌜ Answers (extensionOf (now (file .entry)) number) r ⌝ }
 {
     let mut totals = [0u64; 16];
-    let admitted = admit(file, &mut totals);
-    if admitted.refusal != 0 {
-        return refused(admitted.refusal);
-    }
-    let d = admitted.numbers;
+    let case = admit(file, &mut totals);
+    let Validated::Numbers(d) = case else {
+        return refused(refusal_of(case));
+    };
     if number.0 < 1 {
         return refused(12);
     }

@@ -1,6 +1,6 @@
 // What the crates above ask of a file that they validate, and of validated numbers.
 pub(crate) mod addresses;
-mod admitting;
+pub(crate) mod admitting;
 pub(crate) mod areas;
 pub(crate) mod derived;
 mod slots;

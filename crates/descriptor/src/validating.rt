@@ -1,7 +1,8 @@
 // Validating a file's descriptor.
 use super::inner::addresses_of;
-use super::inner::admit;
+use super::inner::admitting::file_refusal;
 use super::numbers::DescriptorNumbers;
+use super::numbers::numbers_of;
 use geometry::EntryNumber;
 use geometry::RecordNumber;
 use geometry::WordNumber;
@@ -45,11 +46,11 @@ pub fn validate(file: &[u8]) -> Validation
     ensures { λ r. ⌜ Answers (validationOf (now (file .entry))) r ⌝ }
 {
     let mut totals = [0u64; 16];
-    let admitted = admit(file, &mut totals);
-    if admitted.refusal != 0 {
-        return no_validation(admitted.refusal);
+    let refusal = file_refusal(file, &mut totals);
+    if refusal != 0 {
+        return no_validation(refusal);
     }
-    let d = admitted.numbers;
+    let d = numbers_of(file);
     let addresses = addresses_of(d.order, file, d.nex);
     Validation {
         refusal: 0,

@@ -4,58 +4,57 @@ use crate::leftovers::no_leftovers;
 use crate::numbers::numbers_of;
 use crate::rules::count_refusal;
 use crate::rules::limit_refusal;
-use crate::validating::ValidatedCase;
-use crate::validating::no_numbers;
+use crate::validating::Validated;
 use crate::walking::walk_extensions;
 ghost use mathlib.Core.Path.{_≡_};
 ghost use lib.ListN.{replicate};
-ghost use Rattle.outcome.specs.Outcome.{Answers, AnswersAndLeaves};
-ghost use Rattle.descriptor.specs.declared.validating.Validated.the-variants.{Refused};
+ghost use Rattle.outcome.specs.Outcome.{AnswersAndLeaves};
+ghost use Rattle.descriptor.specs.Rules.{fileRefusal};
 ghost use Rattle.descriptor.specs.Walking.{totalsIn};
-ghost use Rattle.descriptor.specs.Answers.{validatedCase, caseOf};
+ghost use Rattle.descriptor.specs.Answers.{caseOf};
 
-// A case with a refusal.
-fn refused(refusal: u32) -> ValidatedCase
-    ensures { λ r. ⌜ Answers (validatedCase (Refused refusal)) r ⌝ }
-{
-    ValidatedCase {
-        refusal,
-        numbers: no_numbers(),
-    }
-}
-
-// The descriptor's numbers, or the first rule of 1 to 11 and 29 that the file breaks; and the totals of the
-// extensions in use, in a table that is zero before.
-pub fn admit(file: &[u8], totals: &mut [u64]) -> ValidatedCase
+// The first rule of 1 to 11 and 29 that the file breaks, or 0; and the totals of the extensions in use, in a
+// table that is zero before.
+pub(crate) fn file_refusal(file: &[u8], totals: &mut [u64]) -> u32
     requires { ⌜ now totals ≡ replicate 16 0 ⌝ }
-    ensures { λ r. ⌜ AnswersAndLeaves (caseOf (now (file .entry))) (totalsIn (now (file .entry))) r (now (totals .exit)) ⌝ }
+    ensures { λ r. ⌜ AnswersAndLeaves (fileRefusal (now (file .entry))) (totalsIn (now (file .entry))) r (now (totals .exit)) ⌝ }
 {
     let bytes = file.len() as u64;
     if bytes < 64 {
-        return refused(1);
+        return 1;
     }
     let d = numbers_of(file);
     let limit = limit_refusal(bytes, d);
     if limit != 0 {
-        return refused(limit);
+        return limit;
     }
     let walked = walk_extensions(file, d, totals);
     if walked.over {
-        return refused(8);
+        return 8;
     }
     let count = count_refusal(bytes, d, walked.before, walked.total);
     if count != 0 {
-        return refused(count);
+        return count;
     }
     let after = walked.after;
     if !areas_hold(d, after) {
-        return refused(11);
+        return 11;
     }
     if !no_leftovers(file, d) {
-        return refused(29);
+        return 29;
     }
-    ValidatedCase {
-        refusal: 0,
-        numbers: d,
+    0
+}
+
+// The numbers of an admitted file, or the refusal; and the totals, as `file_refusal` leaves them. The numbers are
+// read once more, so that none of them is handed on from call to call.
+pub fn admit(file: &[u8], totals: &mut [u64]) -> Validated
+    requires { ⌜ now totals ≡ replicate 16 0 ⌝ }
+    ensures { λ r. ⌜ AnswersAndLeaves (caseOf (now (file .entry))) (totalsIn (now (file .entry))) r (now (totals .exit)) ⌝ }
+{
+    let refusal = file_refusal(file, totals);
+    if refusal != 0 {
+        return Validated::Refused(refusal);
     }
+    Validated::Numbers(numbers_of(file))
 }
