@@ -1,6 +1,8 @@
 // Opening an entry, for C.
 use super::answers::ClassicEntry;
+use descriptor::Validated;
 use descriptor::inner::admit;
+use descriptor::refusal_of;
 use entry::Entered;
 use entry::inner::enter;
 use geometry::EntryNumber;
@@ -88,16 +90,16 @@ pub extern "C" fn classic_open(file: &[u8], entry: u64) -> ClassicEntry
     ensures { λ r. ⌜ Answers (entryFor (openOf (now (file .entry)) (record { 0 = entry }))) r ⌝ }
 {
     let mut totals = [0u64; 16];
-    let admitted = admit(file, &mut totals);
-    if admitted.refusal != 0 {
-        return no_entry(admitted.refusal);
-    }
-    let entered = enter(file, admitted.numbers, &totals, EntryNumber(entry));
+    let case = admit(file, &mut totals);
+    let Validated::Numbers(d) = case else {
+        return no_entry(refusal_of(case));
+    };
+    let entered = enter(file, d, &totals, EntryNumber(entry));
     if entered.refusal != 0 {
         return no_entry(entered.refusal);
     }
     if entered.nsec == 0 {
         return entry_having(entered, [0i32; PLACES], [0u64; PLACES], [0u64; PLACES]);
     }
-    entry_read(admitted.numbers.order, file, entered)
+    entry_read(d.order, file, entered)
 }

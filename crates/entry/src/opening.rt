@@ -4,7 +4,9 @@ use super::answers::DataPlace;
 use super::answers::Open;
 use super::answers::Opened;
 use super::inner::enter;
+use descriptor::Validated;
 use descriptor::inner::admit;
+use descriptor::refusal_of;
 use geometry::EntryNumber;
 use pieces::no_sections;
 use pieces::section_tables;
@@ -27,11 +29,10 @@ pub fn open_entry(file: &[u8], number: EntryNumber) -> Opened
     ensures { λ r. ⌜ Answers (openOf (now (file .entry)) number) r ⌝ }
 {
     let mut totals = [0u64; 16];
-    let admitted = admit(file, &mut totals);
-    if admitted.refusal != 0 {
-        return refused(admitted.refusal);
-    }
-    let d = admitted.numbers;
+    let case = admit(file, &mut totals);
+    let Validated::Numbers(d) = case else {
+        return refused(refusal_of(case));
+    };
     let entered = enter(file, d, &totals, number);
     if entered.refusal != 0 {
         return refused(entered.refusal);

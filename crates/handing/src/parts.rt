@@ -4,7 +4,9 @@ use super::inner::index_part;
 use super::inner::no_part;
 use super::inner::section_part;
 use super::place::PartPlace;
+use descriptor::Validated;
 use descriptor::inner::admit;
+use descriptor::refusal_of;
 use geometry::EntryNumber;
 ghost use Rattle.outcome.specs.Outcome.{Answers};
 ghost use Rattle.handing.specs.Parts.{indexWordsOf, sectionWordsOf, dataWordsOf, IsPart};
@@ -15,11 +17,10 @@ pub fn index_words_place(file: &[u8], number: EntryNumber) -> PartPlace
     ensures { λ r. ⌜ Answers (indexWordsOf (now (file .entry)) number) r ⌝ }
 {
     let mut totals = [0u64; 16];
-    let admitted = admit(file, &mut totals);
-    if admitted.refusal != 0 {
-        return no_part(admitted.refusal);
-    }
-    let d = admitted.numbers;
+    let case = admit(file, &mut totals);
+    let Validated::Numbers(d) = case else {
+        return no_part(refusal_of(case));
+    };
     index_part(file, d, &totals, number)
 }
 
@@ -46,11 +47,10 @@ pub fn section_place(file: &[u8], number: EntryNumber, identifier: i32) -> PartP
     ensures { λ r. ⌜ Answers (sectionWordsOf (now (file .entry)) number identifier) r ⌝ }
 {
     let mut totals = [0u64; 16];
-    let admitted = admit(file, &mut totals);
-    if admitted.refusal != 0 {
-        return no_part(admitted.refusal);
-    }
-    let d = admitted.numbers;
+    let case = admit(file, &mut totals);
+    let Validated::Numbers(d) = case else {
+        return no_part(refusal_of(case));
+    };
     section_part(file, d, &totals, number, identifier)
 }
 
@@ -79,11 +79,10 @@ pub fn data_array_place(file: &[u8], number: EntryNumber) -> PartPlace
     ensures { λ r. ⌜ Answers (dataWordsOf (now (file .entry)) number) r ⌝ }
 {
     let mut totals = [0u64; 16];
-    let admitted = admit(file, &mut totals);
-    if admitted.refusal != 0 {
-        return no_part(admitted.refusal);
-    }
-    let d = admitted.numbers;
+    let case = admit(file, &mut totals);
+    let Validated::Numbers(d) = case else {
+        return no_part(refusal_of(case));
+    };
     data_part(file, d, &totals, number)
 }
 

@@ -1,9 +1,11 @@
 // The record of an open file, made from its first record.
 use super::answers::OpenFile;
 use super::answers::OpenFileAnswer;
+use descriptor::Validated;
 use descriptor::inner::addresses_of;
 use descriptor::inner::admit;
 use descriptor::no_numbers;
+use descriptor::refusal_of;
 use geometry::RecordNumber;
 ghost use Rattle.outcome.specs.Outcome.{Answers};
 ghost use Rattle.held.specs.Record.{noOpenFile, openFileOf};
@@ -26,14 +28,13 @@ pub fn open_file_of(file: &[u8]) -> OpenFileAnswer
     ensures { λ r. ⌜ Answers (openFileOf (now (file .entry))) r ⌝ }
 {
     let mut totals = [0u64; 16];
-    let admitted = admit(file, &mut totals);
-    if admitted.refusal != 0 {
-        return no_open_file(admitted.refusal);
-    }
-    let numbers = admitted.numbers;
-    let addresses = addresses_of(numbers.order, file, numbers.nex);
+    let case = admit(file, &mut totals);
+    let Validated::Numbers(d) = case else {
+        return no_open_file(refusal_of(case));
+    };
+    let addresses = addresses_of(d.order, file, d.nex);
     let file = OpenFile {
-        numbers,
+        numbers: d,
         addresses,
         totals,
     };

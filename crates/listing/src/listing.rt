@@ -1,7 +1,9 @@
 // The listing of a file, and what the listing program prints of its input.
 use super::entries::list_entries;
 use super::rows::put_refused;
+use descriptor::Validated;
 use descriptor::inner::admit;
+use descriptor::refusal_of;
 ghost use Rattle.listing.specs.Buffer.{HandsOver};
 ghost use Rattle.listing.specs.Listing.{refusedFile, Lists, Prints};
 
@@ -30,11 +32,10 @@ pub fn list_file(file: &[u8], out: &mut [u8]) -> usize
     ensures { λ r. ⌜ Lists (now (file .entry)) (now (out .entry)) r (now (out .exit)) ⌝ }
 {
     let mut totals = [0u64; 16];
-    let admitted = admit(file, &mut totals);
-    if admitted.refusal != 0 {
-        return list_refused(admitted.refusal, out);
-    }
-    let d = admitted.numbers;
+    let case = admit(file, &mut totals);
+    let Validated::Numbers(d) = case else {
+        return list_refused(refusal_of(case), out);
+    };
     list_entries(file, d, &totals, out)
 }
 

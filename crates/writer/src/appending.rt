@@ -1,7 +1,9 @@
 // Appending an entry to a file.
 use super::inner::append_from;
+use descriptor::Validated;
 use descriptor::inner::addresses_of;
 use descriptor::inner::admit;
+use descriptor::refusal_of;
 use geometry::EntryNumber;
 ghost use Rattle.storing.specs.Handed.{handed};
 ghost use Rattle.writer.specs.Answers.{Appends};
@@ -28,14 +30,13 @@ pub fn append(
     ensures { λ r. ⌜ Appends (now (file .entry)) (handed version index ids lengths sections values) r (now (file .exit)) ⌝ }
 {
     let mut totals = [0u64; 16];
-    let admitted = admit(file, &mut totals);
-    if admitted.refusal != 0 {
+    let case = admit(file, &mut totals);
+    let Validated::Numbers(d) = case else {
         return Appended {
-            refusal: admitted.refusal,
+            refusal: refusal_of(case),
             number: EntryNumber(0),
         };
-    }
-    let d = admitted.numbers;
+    };
     let addresses = addresses_of(d.order, file, d.nex);
     let appended = append_from(
         d,

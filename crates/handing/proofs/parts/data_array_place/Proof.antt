@@ -7,12 +7,12 @@ use Rattle.handing.proofs.Handing.{whole-refused, whole-numbers}
 use Rattle.handing.proofs.parts.data_array_place.Statement.{statement}
 use Rattle.handing.proofs.parts.data_array_place.Tie as tie
 
--- the place behind the call that validates, and what it shows where it does not refuse
-abbrev called : tie.Else1 → tie.After-admit
+-- the place behind the call that validates, and what the numbers that it gave show
+abbrev called : tie.After-case → tie.After-admit
 called c = c .before .before .before
 
-shown : (c : tie.Else1) → let a = called c in Admits (now (a .before .before .before .args .file)) (a .admit .result) (a .admit .last .1 .0)
-shown c = let a = called c .admit in case-told _ (a .result) (a .ensures .0) (a .ensures .1) (c .if1 .left)
+shown : (c : tie.After-case) → let a = called c in Admits (now (a .before .before .before .args .file)) (c .case .given .0 .0) (a .admit .last .1 .0)
+shown c = let a = called c .admit in case-told _ (a .result) (a .ensures .0) (a .ensures .1) (c .case .given .1)
 
 pub data-array-place-spec : {M : Type 1} → statement M
 data-array-place-spec =
@@ -20,12 +20,18 @@ data-array-place-spec =
     (tie.spec
     (λ c. search needs)
     (λ c κs. search needs)
+    (λ c. search needs)
+    (λ c. search needs)
     (λ c κs. search needs)
-    (λ c. let a = c .before .before .before .before .admit in whole-refused _ _ (case-left _ (a .result) (a .ensures .0) (c .before .if1 .taken)) (c .no-part .ensures))
+    (λ c κs. search needs)
+    (λ c.
+    let t = c .before .before in
+    let a = t .before .before .before .admit in
+    whole-refused _ _ (case-left _ (a .result) (a .ensures .0) (c .before .refusal-of .ensures) (t .enum-told .given .1) .validation) (c .no-part .ensures))
     (λ c. search needs)
     (λ c κs. let p = shown (c .before .before) in (p .admitted, p .table))
     (λ c.
-    let e = c .before .before .before in
-    let s = called e .before .before .before in
+    let k = c .before .before .before in
+    let s = called k .before .before .before in
     let a = s .args in
-    whole-numbers _ (λ addresses d. dataPart (now (a .file)) d addresses (a .number)) (shown e .validation) (c .data-part .ensures)))
+    whole-numbers _ (λ addresses d. dataPart (now (a .file)) d addresses (a .number)) (shown k .validation) (c .data-part .ensures)))

@@ -11,35 +11,38 @@ use Rattle.held.proofs.Held.{record-by}
 use Rattle.held.proofs.opening.open_file_of.Statement.{statement}
 use Rattle.held.proofs.opening.open_file_of.Tie as tie
 
--- the place behind the call that validates, and what it shows where it does not refuse
-abbrev called : tie.Else1 → tie.After-admit
+-- the place behind the call that validates, and what the numbers that it gave show
+abbrev called : tie.After-case → tie.After-admit
 called c = c .before .before .before
 
-shown : (c : tie.Else1) → let a = called c in Admits (now (a .before .before .before .args .file)) (a .admit .result) (a .admit .last .1 .0)
-shown c = let a = called c .admit in case-told _ (a .result) (a .ensures .0) (a .ensures .1) (c .if1 .left)
+shown : (c : tie.After-case) → let a = called c in Admits (now (a .before .before .before .args .file)) (c .case .given .0 .0) (a .admit .last .1 .0)
+shown c = let a = called c .admit in case-told _ (a .result) (a .ensures .0) (a .ensures .1) (c .case .given .1)
 
 returns : tie.Need-returns
 unfolding openFileIn
 returns c =
-    let a = c .before .before .before .before in
-    let n = a .admit .result .refusal in
-    c .no-open-file .ensures
-    ∙ sym (record-by (now (a .before .before .before .args .file)) (noValidation n) (Refused n) (sym (case-left _ (a .admit .result) (a .admit .ensures .0) (c .before .if1 .taken))) refl)
+    let t = c .before .before in
+    let a = t .before .before .before in
+    let n = c .before .refusal-of .result in
+    let left = case-left _ (a .admit .result) (a .admit .ensures .0) (c .before .refusal-of .ensures) (t .enum-told .given .1) in
+    c .no-open-file .ensures ∙ sym (record-by (now (a .before .before .before .args .file)) (noValidation n) (Refused n) (sym (left .validation)) refl)
 
 returns-2 : tie.Need-returns-2
 unfolding openFileIn
 returns-2 c =
-    let e = c .before .before in
-    let a = called e in
-    let d = a .admit .result .numbers in
-    let p = shown e in
+    let k = c .before .before in
+    let d = k .case .given .0 .0 in
+    let p = shown k in
     (λ i. record { refusal = 0; file = record { numbers = d; addresses = c .addresses-of .ensures i; totals = p .table i } })
-    ∙ sym (record-by (now (a .before .before .before .args .file)) _ (Numbers d) (sym (p .validation)) refl)
+    ∙ sym (record-by (now (called k .before .before .before .args .file)) _ (Numbers d) (sym (p .validation)) refl)
 
 pub open-file-of-spec : {M : Type 1} → statement M
 open-file-of-spec =
     tie.close
     (tie.spec
+    (λ c. search needs)
+    (λ c κs. search needs)
+    (λ c. search needs)
     (λ c. search needs)
     (λ c κs. search needs)
     (λ c κs. search needs)
