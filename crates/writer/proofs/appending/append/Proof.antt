@@ -18,32 +18,33 @@ use Rattle.writer.proofs.appending.append.Tie as tie
 abbrev began : tie.After-admit → tie.Start
 began c = let p : tie.After-admit-arg = c .before .before in p .before .before .before .before .before
 
-abbrev called : tie.Else1 → tie.After-admit
+abbrev called : tie.After-case → tie.After-admit
 called c = c .before .before .before
 
-abbrev admitted-at : tie.After-addresses-of → tie.Else1
+abbrev admitted-at : tie.After-addresses-of → tie.After-case
 admitted-at c = c .before .before .before
 
--- what validating shows where it does not refuse
-shown : (c : tie.Else1) → let a = called c in Admits (began a .args .file .now) (a .admit .result) (a .admit .last .1 .0)
-shown c = let a = called c .admit in case-told _ (a .result) (a .ensures .0) (a .ensures .1) (c .if1 .left)
+-- what the numbers that validating gave show
+shown : (c : tie.After-case) → let a = called c in Admits (began a .args .file .now) (c .case .given .0 .0) (a .admit .last .1 .0)
+shown c = let a = called c .admit in case-told _ (a .result) (a .ensures .0) (a .ensures .1) (c .case .given .1)
 
 -- the validation, with the addresses that were read
 abbrev validation : tie.After-addresses-of → Validation
-validation c = record { refusal = 0; numbers = Numbers (called (admitted-at c) .admit .result .numbers); addresses = c .addresses-of .result }
+validation c = record { refusal = 0; numbers = Numbers (admitted-at c .case .given .0 .0); addresses = c .addresses-of .result }
 
 validates : (c : tie.After-addresses-of) → validation c ≡ validationOf (began (called (admitted-at c)) .args .file .now)
 validates c =
     let e = admitted-at c in
-    (λ i. record { refusal = 0; numbers = Numbers (called e .admit .result .numbers); addresses = c .addresses-of .ensures i }) ∙ sym (shown e .validation)
+    (λ i. record { refusal = 0; numbers = Numbers (e .case .given .0 .0); addresses = c .addresses-of .ensures i }) ∙ sym (shown e .validation)
 
 returns : tie.Need-returns
 unfolding appendIn fileIn
 returns c =
-    let a = c .before .before .before in
-    let n = a .admit .result .refusal in
+    let t = c .before in
+    let a = t .before .before .before in
+    let n = c .refusal-of .result in
     let file = began a .args .file .now in
-    let left = sym (case-left file (a .admit .result) (a .admit .ensures .0) (c .if1 .taken)) in
+    let left = sym (case-left file (a .admit .result) (a .admit .ensures .0) (c .refusal-of .ensures) (t .enum-told .given .1) .validation) in
     (sym (append-by file (noValidation n) (Refused n) left refl _), sym (file-by file (noValidation n) (Refused n) left refl _))
 
 append-from-requires : tie.Need-append-from-requires
@@ -58,7 +59,7 @@ returns-2 c =
     let r = c .before .before .before in
     let x = r .before .before .before in
     let s = began (called (admitted-at x)) in
-    let d = called (admitted-at x) .admit .result .numbers in
+    let d = admitted-at x .case .given .0 .0 in
     let a = rw (toZ-ofZ (s .fits .version)) at (r .append-from .ensures) in
     (ap (λ (y : AppendedFrom). record { refusal = y .refusal; number = y .number }) (a .0) ∙ sym (append-by (s .args .file .now) (validation x) (Numbers d) (validates x) refl _), a .1 ∙ sym (file-by (s .args .file .now) (validation x) (Numbers d) (validates x) refl _))
 
@@ -66,6 +67,9 @@ pub append-spec : {M : Type 1} → statement M
 append-spec =
     tie.close
     (tie.spec
+    (λ c. search needs)
+    (λ c κs. search needs)
+    (λ c. search needs)
     (λ c. search needs)
     (λ c κs. search needs)
     (λ c. search needs)
