@@ -30,8 +30,8 @@ unfoldable pub entryAddresses : List EntryAddress → List ℕ
 entryAddresses table = map (λ (a : EntryAddress). a .0) table
 
 -- a descriptor: the number and the values of the validation's case, and the addresses
-abbrev pub descriptorFrom : ValidatedCase → List RecordNumber → ClassicDescriptor
-descriptorFrom case addresses = record {
+abbrev pub descriptorFrom : ValidatedCase → List ℕ → ClassicDescriptor
+descriptorFrom case aex = record {
   refusal = case .refusal;
   order = case .numbers .order .0;
   reclen = case .numbers .reclen;
@@ -45,12 +45,12 @@ descriptorFrom case addresses = record {
   lex1 = case .numbers .lex1;
   nex = case .numbers .nex;
   gex = case .numbers .gex;
-  aex = recordNumbers addresses;
+  aex = aex;
 }
 
 -- a validation: its case, and its addresses
 abbrev pub descriptorFor : Validation → ClassicDescriptor
-descriptorFor v = descriptorFrom (validatedCase (v .numbers)) (v .addresses)
+descriptorFor v = descriptorFrom (validatedCase (v .numbers)) (recordNumbers (v .addresses))
 
 -- an extension, field by field
 abbrev pub extensionFor : Extension → ClassicExtension

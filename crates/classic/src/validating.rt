@@ -1,22 +1,22 @@
 // A file's descriptor and its extensions, for C.
 use super::answers::ClassicDescriptor;
 use super::answers::ClassicExtension;
-use super::tables::record_numbers;
+use super::tables::aex_numbers;
+use descriptor::Validated;
 use descriptor::ValidatedCase;
 use descriptor::extension_of;
-use descriptor::validate;
+use descriptor::inner::admit;
 use descriptor::validated_case;
 use geometry::ExtensionNumber;
-use geometry::RecordNumber;
 ghost use Rattle.outcome.specs.Outcome.{Answers};
 ghost use Rattle.descriptor.specs.Answers.{validationOf, extensionOf};
 ghost use Rattle.descriptor.specs.Bounds.{Narrow};
 ghost use Rattle.classic.specs.Answers.{descriptorFrom, descriptorFor, extensionFor};
 
 // A descriptor from a case and the addresses.
-fn descriptor_from(case: ValidatedCase, addresses: [RecordNumber; 16]) -> ClassicDescriptor
+fn descriptor_from(case: ValidatedCase, aex: [u64; 16]) -> ClassicDescriptor
     requires { ⌜ Narrow (case .numbers) ⌝ }
-    ensures { λ r. ⌜ Answers (descriptorFrom case addresses) r ⌝ }
+    ensures { λ r. ⌜ Answers (descriptorFrom case aex) r ⌝ }
 {
     let d = case.numbers;
     ClassicDescriptor {
@@ -33,7 +33,7 @@ fn descriptor_from(case: ValidatedCase, addresses: [RecordNumber; 16]) -> Classi
         lex1: d.lex1 as u32,
         nex: d.nex as u32,
         gex: d.gex as u32,
-        aex: record_numbers(addresses),
+        aex,
     }
 }
 
@@ -42,10 +42,12 @@ fn descriptor_from(case: ValidatedCase, addresses: [RecordNumber; 16]) -> Classi
 pub extern "C" fn classic_validate(file: &[u8]) -> ClassicDescriptor
     ensures { λ r. ⌜ Answers (descriptorFor (validationOf (now (file .entry)))) r ⌝ }
 {
-    let validation = validate(file);
-    let numbers = validation.numbers;
-    let addresses = validation.addresses;
-    descriptor_from(validated_case(numbers), addresses)
+    let mut totals = [0u64; 16];
+    let case = admit(file, &mut totals);
+    let Validated::Numbers(d) = case else {
+        return descriptor_from(validated_case(case), [0u64; 16]);
+    };
+    descriptor_from(validated_case(case), aex_numbers(d.order, file, d.nex))
 }
 
 // An extension by its number, or the refusal.

@@ -6,7 +6,6 @@
 // and leaves the totals of the extensions in use, and the others are for what it admitted.
 mod extensions;
 pub mod inner;
-mod leftovers;
 mod numbers;
 mod rules;
 mod validating;

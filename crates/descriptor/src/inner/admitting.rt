@@ -1,11 +1,13 @@
 // Validating a file, with what the one walk over its extensions finds.
 use super::areas::areas_hold;
-use crate::leftovers::no_leftovers;
 use crate::numbers::numbers_of;
 use crate::rules::count_refusal;
 use crate::rules::limit_refusal;
 use crate::validating::Validated;
 use crate::walking::walk_extensions;
+use geometry::byte_offset;
+use geometry::first_record_offset;
+use layout::first_record::after_aex;
 ghost use mathlib.Core.Path.{_≡_};
 ghost use lib.ListN.{replicate};
 ghost use Rattle.outcome.specs.Outcome.{AnswersAndLeaves};
@@ -40,7 +42,9 @@ pub(crate) fn file_refusal(file: &[u8], totals: &mut [u64]) -> u32
     if !areas_hold(d, after) {
         return 11;
     }
-    if !no_leftovers(file, d) {
+    let start = first_record_offset(after_aex(d.nex));
+    let end = byte_offset(d.reclen);
+    if !words::all_zero(file, start, end) {
         return 29;
     }
     0

@@ -1,5 +1,5 @@
 -- `descriptor::inner::admitting::file_refusal` meets its contract: the parts of the table are tested in turn. Assumes nothing.
-use Prim.Native.Nat.{ℕ, _/_, _^_, _<_}
+use Prim.Native.Nat.{ℕ, _*_, _-_, _/_, _^_, _≤_, _<_}
 use mathlib.Core.Path.{_≡_, refl, sym, ap, subst, _∙_}
 use mathlib.Core.Bool.{true, false, _&&_}
 use mathlib.Core.List.{List}
@@ -8,13 +8,17 @@ use borrow.Author.Needs.{needs}
 use borrow.Author.Tests.{le-leb, lt-leb, leb-true, ne-eqb}
 use lib.Dec.{leb}
 use lib.ListN.{length}
+use Rattle.image.specs.Image.{part, allZero}
+use Rattle.geometry.specs.declared.units.WordNumber.{WordNumber}
+use Rattle.geometry.specs.Units.{offsetOf, firstRecordOffsetOf}
 use Rattle.geometry.specs.Growth.{overOf}
 use Rattle.geometry.specs.Totals.{totalsOf}
+use Rattle.layout.specs.FirstRecordWords.{afterAex}
 use Rattle.descriptor.specs.declared.numbers.DescriptorNumbers.{DescriptorNumbers}
 use Rattle.descriptor.specs.declared.walking.Walked.{Walked}
 use Rattle.descriptor.specs.FirstRecord.{numbersOf, addressesOf, growthIn, freeOf}
 use Rattle.descriptor.specs.Areas.{areasStart, areasEnd}
-use Rattle.descriptor.specs.Bounds.{Free, Holding}
+use Rattle.descriptor.specs.Bounds.{Settled, Free, Holding}
 use Rattle.descriptor.specs.Rules.{limitRefusal, settingRefusal, countRules, countRefusal, fillingRefusal, noLeftovers, fileRefusal}
 use Rattle.descriptor.specs.Walking.{areasHold, walkedOf, walkedTotals, totalsIn}
 use Rattle.descriptor.proofs.Tests.{holds, broken}
@@ -112,9 +116,33 @@ hold c =
 filled : (c : tie.Else5) → let file = file-of (read (walked (c .before .before .before))) in fillingRefusal (length file) (numbersOf file) (addressesOf file (numbersOf file .nex)) ≡ 0
 filled c = filling-parts (file-of (read (walked (c .before .before .before)))) _ ∙ rw (counted (c .before .before .before), holds (hold (c .before)) (c .if5 .left))
 
--- and the leftovers
-clear : (c : tie.After-no-leftovers) → let file = file-of (read (walked (c .before .before .before .before))) in c .no-leftovers .result ≡ noLeftovers file (numbersOf file)
-clear c = rw (read (walked (c .before .before .before .before)) .numbers-of .ensures) at (c .no-leftovers .ensures)
+-- and the leftovers: the words looked at are those after the addresses in use, to the record's end
+abbrev areas-at : tie.After-byte-offset → tie.Else5
+areas-at c = c .before .before .before
+
+abbrev read-at : tie.Else5 → tie.After-numbers-of
+read-at c = read (walked (c .before .before .before))
+
+settled-at : (c : tie.Else5) → let d = read-at c .numbers-of .result in Settled d × (4 * d .reclen ≤ length (file-of (read-at c)))
+settled-at c =
+    let e = walked (c .before .before .before) in
+    let n = read e in
+    let file = file-of n in
+    subst (λ (d : DescriptorNumbers). Settled d × (4 * d .reclen ≤ length file)) (sym (n .numbers-of .ensures))
+    (settled _ _ (none e), lent _ _ (kept (walked-at e .before .before)) (n .before .if1 .left) .first)
+
+from : (c : tie.After-first-record-offset) → c .first-record-offset .result ≡ firstRecordOffsetOf (afterAex (numbersOf (file-of (read-at (c .before .before))) .nex))
+from c = c .first-record-offset .ensures ∙ ap firstRecordOffsetOf (c .before .after-aex .ensures ∙ ap (λ (d : DescriptorNumbers). afterAex (d .nex)) (read-at (c .before .before) .numbers-of .ensures))
+
+to : (c : tie.After-byte-offset) → c .byte-offset .result ≡ offsetOf (numbersOf (file-of (read-at (areas-at c))) .reclen)
+to c = c .byte-offset .ensures ∙ ap (λ (d : DescriptorNumbers). offsetOf (d .reclen)) (read-at (areas-at c) .numbers-of .ensures)
+
+clear : (c : tie.After-all-zero) → let file = file-of (read-at (areas-at (c .before))) in c .all-zero .result ≡ noLeftovers file (numbersOf file)
+unfolding noLeftovers
+clear c =
+    let b = c .before in
+    let file = file-of (read-at (areas-at b)) in
+    c .all-zero .ensures ∙ (λ i. allZero (part file (from (b .before) i) (to b i - from (b .before) i)))
 
 returns : tie.Need-returns
 unfolding fileRefusal
@@ -165,14 +193,14 @@ returns-5 c =
 returns-6 : tie.Need-returns-6
 returns-6 c =
     let n = c .before in
-    let e = walked (n .before .before .before .before) in
-    (sym (leftovers-refused (file-of (read e)) (long (read e)) (none e) (filled (n .before)) (broken (clear n) (c .if6 .taken))), left e)
+    let e = walked (areas-at (n .before) .before .before .before) in
+    (sym (leftovers-refused (file-of (read e)) (long (read e)) (none e) (filled (areas-at (n .before))) (broken (clear n) (c .if6 .taken))), left e)
 
 returns-7 : tie.Need-returns-7
 returns-7 c =
     let n = c .before in
-    let e = walked (n .before .before .before .before) in
-    (sym (leftovers-refused (file-of (read e)) (long (read e)) (none e) (filled (n .before)) (holds (clear n) (c .if6 .left))), left e)
+    let e = walked (areas-at (n .before) .before .before .before) in
+    (sym (leftovers-refused (file-of (read e)) (long (read e)) (none e) (filled (areas-at (n .before))) (holds (clear n) (c .if6 .left))), left e)
 
 pub file-refusal-spec : {M : Type 1} → statement M
 file-refusal-spec =
@@ -193,10 +221,13 @@ file-refusal-spec =
     (λ c κs. let f = free (c .before) in let e = walked (c .before) in rw (read e .numbers-of .ensures) (limited _ _ (kept (walked-at e .before .before)), f .0, f .1))
     (λ c. search needs)
     returns-5
+    (λ c κs. omega (arith, settled-at c .0))
+    (λ c κs. omega (arith, settled-at (c .before) .0, ap (λ (w : WordNumber). w .0) (c .after-aex .ensures)))
+    (λ c κs. omega (arith, settled-at (c .before .before) .0))
     (λ c κs.
-    let e = walked (c .before .before .before) in
-    let n = read e in
-    rw (n .numbers-of .ensures) (settled _ _ (none e), lent _ _ (kept (walked-at e .before .before)) (n .before .if1 .left) .first))
+    let p = settled-at (areas-at c) in
+    let a = c .before .before in
+    omega (arith, p .0, p .1, c .byte-offset .ensures, c .before .first-record-offset .ensures, ap (λ (w : WordNumber). w .0) (a .after-aex .ensures)))
     (λ c. search needs)
     returns-6
     (λ c. search needs)
