@@ -17,17 +17,19 @@ use Rattle.descriptor.specs.declared.numbers.DescriptorNumbers.{DescriptorNumbe
 use Rattle.descriptor.specs.declared.validating.Validated.{Validated}
 use Rattle.descriptor.specs.declared.validating.Validated.the-variants.{Numbers, Refused}
 use Rattle.descriptor.specs.Refusal.{refusalIn}
-use Rattle.descriptor.specs.Bounds.{Admitted}
+use Rattle.descriptor.specs.Bounds.{Admitted, AdmittedIn}
 use Rattle.descriptor.specs.Answers.{validationOf, noValidation, Validates}
 use Rattle.descriptor.proofs.Answered.{told}
 use Rattle.pieces.specs.EntryDescriptor.{sectionOf}
 use Rattle.pieces.specs.Tables.{sectionNamed}
-use Rattle.pieces.proofs.Pieces.{section-placed, data-placed}
+use Rattle.pieces.proofs.Pieces.{described-in, section-placed, data-placed}
+use Rattle.entry.specs.declared.entered.Entered.{Entered}
 use Rattle.entry.specs.Opening.{numberRules, enteredOf}
 use Rattle.entry.proofs.Entering.{slot-lent, entry-number, entered-refused}
 use Rattle.entry.proofs.Opened.{Known, known}
 use Rattle.handing.specs.declared.place.PartPlace.{PartPlace}
-use Rattle.handing.specs.Parts.{noPart, pieceFrom, indexPart, sectionPart, dataPart, partIn, indexWordsOf, sectionWordsOf, dataWordsOf, IsPart}
+use Rattle.handing.specs.Bounds.{Readable}
+use Rattle.handing.specs.Parts.{noPart, pieceFrom, indexPart, sectionIn, sectionPart, dataPart, partIn, indexWordsOf, sectionWordsOf, dataWordsOf, IsPart}
 
 -- a part lies within so many bytes, and is whole words, no more than a file has
 pub record Inside (bytes : ℕ) (p : PartPlace) : Type 0 where
@@ -36,14 +38,23 @@ pub record Inside (bytes : ℕ) (p : PartPlace) : Type 0 where
   pub whole : (p .end - p .start) % 4 ≡ 0
   pub small : p .end ≤ 2 ^ 30
 
--- a part that is refused is empty
-abbrev Empty : PartPlace → Type 0
-Empty p = (p .refusal ≡ 0 → ⊥) → noPart (p .refusal) ≡ p
-
 -- what holds of a part that a test chooses
 chosen : (P : PartPlace → Type 0) (b : Bool) (p q : PartPlace) → (b ≡ true → P p) → (b ≡ false → P q) → P (cond b p q)
 chosen P true p q f g = f refl
 chosen P false p q f g = g refl
+
+-- the tables of what was entered may be read
+pub readable : (file : List ℕ) (d : DescriptorNumbers) (addresses : List RecordNumber) (e : EntryNumber) (x : Entered) → AdmittedIn file d addresses → x ≡ enteredOf file d addresses e
+    → Readable (d .order) file x
+readable file d addresses e x a q =
+    let k = known file d addresses e x (a .admitted) q in
+    record { described = λ z. described-in (a .order) (k z .described); small = λ z. k z .nword-small; ends = λ z. k z .ends; within = λ z. k z .sections-within }
+
+-- a section of what was entered is that of the entry by its number
+pub section-by : (file : List ℕ) (d : DescriptorNumbers) (addresses : List RecordNumber) (e : EntryNumber) (identifier : ℤ) {x : Entered} {p : PartPlace}
+    → x ≡ enteredOf file d addresses e → p ≡ sectionIn file x identifier → p ≡ sectionPart file d addresses e identifier
+unfolding sectionPart
+section-by file d addresses e identifier q h = rw q at h
 
 -- a part of an entry of admitted numbers lies within the file, refused or not
 entered : (file : List ℕ) (d : DescriptorNumbers) (addresses : List RecordNumber) (e : EntryNumber) (p : PartPlace) → Admitted (length file) d addresses
@@ -101,18 +112,6 @@ module _ (file : List ℕ) (e : EntryNumber) where
       let i = sectionNamed file (x .start) identifier 0 (x .nsec) in
       entered file d addresses e _ a (λ k. chosen (Inside (length file)) (ltb i (x .nsec)) (pieceFrom (x .start) (sectionOf file (x .start) (x .nsec) i)) (noPart 20)
       (λ q. let h = section-placed file (x .start) (x .nsec) (x .nword) i (x .nsec) (ltb-true i (x .nsec) q) (k .sections-within) in omega (arith, a .lent .high)) (λ q. omega arith)))
-
-  -- and a refused one is empty
-  pub section-refused : (identifier : ℤ) {p : PartPlace} → p ≡ sectionWordsOf file e identifier → (p .refusal ≡ 0 → ⊥) → noPart (p .refusal) ≡ sectionWordsOf file e identifier
-  unfolding sectionPart
-  section-refused identifier q z =
-      rw q (whole file (λ addresses d. sectionPart file d addresses e identifier) Empty (λ n h. refl)
-      (λ addresses d a.
-      let x = enteredOf file d addresses e in
-      let i = sectionNamed file (x .start) identifier 0 (x .nsec) in
-      let piece = pieceFrom (x .start) (sectionOf file (x .start) (x .nsec) i) in
-      chosen Empty (eqb (x .refusal) 0) (cond (ltb i (x .nsec)) piece (noPart 20)) (noPart (x .refusal))
-      (λ t. chosen Empty (ltb i (x .nsec)) piece (noPart 20) (λ u h. absurd (h refl)) (λ u h. refl)) (λ t h. refl)) (rw q at z))
 
   -- and the data
   pub data-words-inside : Inside (length file) (dataWordsOf file e)

@@ -17,6 +17,7 @@ use Rattle.descriptor.specs.Answers.{validationOf}
 use Rattle.pieces.specs.declared.contents.Piece.{Piece}
 use Rattle.pieces.specs.EntryDescriptor.{sectionOf}
 use Rattle.pieces.specs.Tables.{sectionNamed}
+use Rattle.entry.specs.declared.entered.Entered.{Entered}
 use Rattle.entry.specs.Opening.{slotPositionOf, enteredOf}
 use Rattle.handing.specs.declared.place.PartPlace.{PartPlace}
 
@@ -38,14 +39,17 @@ indexPart file d addresses e =
     let x = enteredOf file d addresses e in
     cond (eqb (x .refusal) 0) (wordsFrom (slotPositionOf d addresses e + 3) (d .lind - 3)) (noPart (x .refusal))
 
--- the first section with an identifier; 20 where there is none
-unfoldable pub sectionPart : List ℕ → DescriptorNumbers → List RecordNumber → EntryNumber → ℤ → PartPlace
-sectionPart file d addresses e identifier =
-    let x = enteredOf file d addresses e in
+-- the first section with an identifier, of what was entered; 20 where there is none
+abbrev pub sectionIn : List ℕ → Entered → ℤ → PartPlace
+sectionIn file x identifier =
     let i = sectionNamed file (x .start) identifier 0 (x .nsec) in
     cond (eqb (x .refusal) 0)
     (cond (ltb i (x .nsec)) (pieceFrom (x .start) (sectionOf file (x .start) (x .nsec) i)) (noPart 20))
     (noPart (x .refusal))
+
+-- the same of an entry by its number
+unfoldable pub sectionPart : List ℕ → DescriptorNumbers → List RecordNumber → EntryNumber → ℤ → PartPlace
+sectionPart file d addresses e identifier = sectionIn file (enteredOf file d addresses e) identifier
 
 -- the data; an entry with none gives the empty part at the file's start
 unfoldable pub dataPart : List ℕ → DescriptorNumbers → List RecordNumber → EntryNumber → PartPlace

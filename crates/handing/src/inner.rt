@@ -1,6 +1,7 @@
 // Where the parts of an entry of validated numbers stand.
 use super::place::PartPlace;
 use descriptor::DescriptorNumbers;
+use entry::Entered;
 use entry::inner::enter;
 use entry::inner::enter_at;
 use entry::inner::slot_position;
@@ -10,11 +11,13 @@ use geometry::entries_before;
 use geometry::entry_position;
 use pieces::section_at;
 use pieces::section_named;
+use words::ByteOrder;
 ghost use Prim.Native.Nat.{_+_, _^_, _<_};
 ghost use Rattle.outcome.specs.Outcome.{Answers};
 ghost use Rattle.descriptor.specs.FirstRecord.{addressesOf};
 ghost use Rattle.descriptor.specs.Bounds.{AdmittedIn, TotalsOf};
-ghost use Rattle.handing.specs.Parts.{indexPart, sectionPart, dataPart, noPart, wordsFrom};
+ghost use Rattle.handing.specs.Parts.{indexPart, sectionIn, sectionPart, dataPart, noPart, wordsFrom};
+ghost use Rattle.handing.specs.Bounds.{Readable};
 
 // A part with a refusal, or with nothing in it.
 pub fn no_part(refusal: u32) -> PartPlace
@@ -64,6 +67,27 @@ pub fn index_part(
     words_from(slot + 3, d.lind - 3)
 }
 
+// Where the first section with an identifier stands, of an entry that was entered.
+pub(crate) fn named_part(
+    order: ByteOrder,
+    file: &[u8],
+    entered: Entered,
+    identifier: i32,
+) -> PartPlace
+    requires { ⌜ Readable order (now file) entered ⌝ }
+    ensures { λ r. ⌜ Answers (sectionIn (now (file .entry)) entered identifier) r ⌝ }
+{
+    if entered.refusal != 0 {
+        return no_part(entered.refusal);
+    }
+    let found = section_named(order, file, entered.start, entered.nsec, identifier);
+    if entered.nsec <= found {
+        return no_part(20);
+    }
+    let piece = section_at(order, file, entered.start, entered.nsec, found);
+    words_from(entry_position(entered.start, piece.address), piece.words)
+}
+
 // Where the first section with an identifier stands.
 pub fn section_part(
     file: &[u8],
@@ -76,15 +100,7 @@ pub fn section_part(
     ensures { λ r. ⌜ Answers (sectionPart (now (file .entry)) d (addressesOf (now (file .entry)) (d .nex)) number identifier) r ⌝ }
 {
     let entered = enter(file, d, totals, number);
-    if entered.refusal != 0 {
-        return no_part(entered.refusal);
-    }
-    let found = section_named(d.order, file, entered.start, entered.nsec, identifier);
-    if entered.nsec <= found {
-        return no_part(20);
-    }
-    let piece = section_at(d.order, file, entered.start, entered.nsec, found);
-    words_from(entry_position(entered.start, piece.address), piece.words)
+    named_part(d.order, file, entered, identifier)
 }
 
 // Where the data stands.

@@ -1,12 +1,14 @@
 // Handing out an entry's index words, sections and data.
 use super::inner::data_part;
 use super::inner::index_part;
+use super::inner::named_part;
 use super::inner::no_part;
 use super::inner::section_part;
 use super::place::PartPlace;
 use descriptor::Validated;
 use descriptor::inner::admit;
 use descriptor::refusal_of;
+use entry::inner::enter;
 use geometry::EntryNumber;
 ghost use Rattle.outcome.specs.Outcome.{Answers};
 ghost use Rattle.handing.specs.Parts.{indexWordsOf, sectionWordsOf, dataWordsOf, IsPart};
@@ -51,17 +53,20 @@ pub fn section_place(file: &[u8], number: EntryNumber, identifier: i32) -> PartP
     let Validated::Numbers(d) = case else {
         return no_part(refusal_of(case));
     };
-    section_part(file, d, &totals, number, identifier)
+    let entered = enter(file, d, &totals, number);
+    named_part(d.order, file, entered, identifier)
 }
 
 // The first section of an entry that has an identifier.
 pub fn section<'a>(file: &'a [u8], number: EntryNumber, identifier: i32) -> &'a [u8]
     ensures { λ r. ⌜ IsPart (file .entry) (sectionWordsOf (now (file .entry)) number identifier) r ⌝ }
 {
-    let place = section_place(file, number, identifier);
-    if place.refusal != 0 {
+    let mut totals = [0u64; 16];
+    let case = admit(file, &mut totals);
+    let Validated::Numbers(d) = case else {
         return &file[0..0];
-    }
+    };
+    let place = section_part(file, d, &totals, number, identifier);
     let start = place.start;
     let end = place.end;
     &file[start..end]

@@ -4,7 +4,7 @@ use borrow.Author.Needs.{needs}
 use mir.Facts.{toZ-ofZ}
 use Rattle.descriptor.proofs.Answered.{Admits, case-told, case-left}
 use Rattle.handing.specs.Parts.{sectionPart}
-use Rattle.handing.proofs.Handing.{whole-refused, whole-numbers}
+use Rattle.handing.proofs.Handing.{readable, section-by, whole-refused, whole-numbers}
 use Rattle.handing.proofs.parts.section_place.Statement.{statement}
 use Rattle.handing.proofs.parts.section_place.Tie as tie
 
@@ -31,8 +31,10 @@ section-place-spec =
     whole-refused _ _ (case-left _ (a .result) (a .ensures .0) (c .before .refusal-of .ensures) (t .enum-told .given .1) .validation) (c .no-part .ensures))
     (λ c. search needs)
     (λ c κs. let p = shown (c .before .before) in (p .admitted, p .table))
+    (λ c κs. readable _ _ _ _ (c .enter .result) (shown (c .before .before .before) .admitted) (c .enter .ensures))
     (λ c.
-    let k = c .before .before .before in
+    let x = c .before .enter in
+    let k = c .before .before .before .before in
     let s = called k .before .before .before in
     let a = s .args in
-    whole-numbers _ (λ addresses d. sectionPart (now (a .file)) d addresses (a .number) (a .identifier)) (shown k .validation) (rw (toZ-ofZ (s .fits .identifier)) at (c .section-part .ensures))))
+    whole-numbers _ (λ addresses d. sectionPart (now (a .file)) d addresses (a .number) (a .identifier)) (shown k .validation) (section-by _ _ _ _ _ (x .ensures) (rw (toZ-ofZ (s .fits .identifier)) at (c .named-part .ensures)))))
