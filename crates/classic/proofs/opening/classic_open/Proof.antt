@@ -14,40 +14,42 @@ use Rattle.classic.proofs.Entries.{having-none}
 use Rattle.classic.proofs.opening.classic_open.Statement.{statement}
 use Rattle.classic.proofs.opening.classic_open.Tie as tie
 
--- the place behind the call that validates, and what it shows where it does not refuse
-abbrev called : tie.Else1 → tie.After-admit
+-- the place behind the call that validates, and what the numbers that it gave show
+abbrev called : tie.After-case → tie.After-admit
 called c = c .before .before .before
 
-shown : (c : tie.Else1) → let a = called c in Admits (now (a .before .before .before .args .file)) (a .admit .result) (a .admit .last .1 .0)
-shown c = let a = called c .admit in case-told _ (a .result) (a .ensures .0) (a .ensures .1) (c .if1 .left)
+shown : (c : tie.After-case) → let a = called c in Admits (now (a .before .before .before .args .file)) (c .case .given .0 .0) (a .admit .last .1 .0)
+shown c = let a = called c .admit in case-told _ (a .result) (a .ensures .0) (a .ensures .1) (c .case .given .1)
 
-abbrev admitted-at : tie.After-enter → tie.Else1
-admitted-at c = c .before .before
+abbrev admitted-at : tie.After-enter → tie.After-case
+admitted-at c = c .before .before .before
 
 -- the answer is made of what was entered
 answer : (c : tie.After-enter) → let a = called (admitted-at c) .before .before .before .args in
     entryFor (openOf (now (a .file)) (record { 0 = a .entry })) ≡ entryFor (openedAs (now (a .file)) (c .enter .result))
 answer c = ap entryFor (open-numbers _ _ (shown (admitted-at c) .validation) ∙ ap (openedAs _) (sym (c .enter .ensures)))
 
-abbrev entered-at : tie.Else2 → tie.After-enter
+abbrev entered-at : tie.Else1 → tie.After-enter
 entered-at c = c .before .before
 
 -- and its numbers fit
-fits : (c : tie.Else2) → Slim (entered-at c .enter .result)
+fits : (c : tie.Else1) → Slim (entered-at c .enter .result)
 fits c =
     let x = entered-at c in
-    slim _ _ _ _ (x .enter .result) (shown (admitted-at x) .admitted .admitted) (x .enter .ensures) (c .if2 .left)
+    slim _ _ _ _ (x .enter .result) (shown (admitted-at x) .admitted .admitted) (x .enter .ensures) (c .if1 .left)
 
 returns : tie.Need-returns
 returns c =
-    let a = c .before .before .before .before .admit in
-    c .no-entry .ensures ∙ sym (ap entryFor (open-refused _ _ (case-left _ (a .result) (a .ensures .0) (c .before .if1 .taken)) (c .before .if1 .taken)))
+    let t = c .before .before in
+    let a = t .before .before .before .admit in
+    let left = case-left _ (a .result) (a .ensures .0) (c .before .refusal-of .ensures) (t .enum-told .given .1) in
+    c .no-entry .ensures ∙ sym (ap entryFor (open-refused _ _ (left .validation) (left .broken)))
 
 returns-2 : tie.Need-returns-2
 unfolding openedAs
 returns-2 c =
     let x = c .before .before .before in
-    c .no-entry2 .ensures ∙ sym (answer x ∙ rw (ne-eqb (x .enter .result .refusal) 0 (c .before .if2 .taken)))
+    c .no-entry2 .ensures ∙ sym (answer x ∙ rw (ne-eqb (x .enter .result .refusal) 0 (c .before .if1 .taken)))
 
 pub classic-open-spec : {M : Type 1} → statement M
 classic-open-spec =
@@ -55,19 +57,22 @@ classic-open-spec =
     (tie.spec
     (λ c. search needs)
     (λ c κs. search needs)
+    (λ c. search needs)
+    (λ c. search needs)
+    (λ c κs. search needs)
     (λ c κs. search needs)
     returns
     (λ c. search needs)
-    (λ c κs. let p = shown (c .before) in (p .admitted, p .table))
+    (λ c κs. let p = shown (c .before .before) in (p .admitted, p .table))
     (λ c κs. search needs)
     returns-2
     (λ c κs. fits (c .before .before))
     (λ c.
     let e = c .before .before .before in
-    c .entry-having .ensures ∙ having-none _ (entered-at e .enter .result) (e .if2 .left) (c .before .if3 .taken) ∙ sym (answer (entered-at e)))
+    c .entry-having .ensures ∙ having-none _ (entered-at e .enter .result) (e .if1 .left) (c .before .if2 .taken) ∙ sym (answer (entered-at e)))
     (λ c κs.
     let e = c .before .before in
     let x = entered-at e in
     let a = shown (admitted-at x) .admitted in
-    (fits e, described-in (a .order) (known _ _ _ _ (x .enter .result) (a .admitted) (x .enter .ensures) (e .if2 .left) .described), e .if2 .left))
+    (fits e, described-in (a .order) (known _ _ _ _ (x .enter .result) (a .admitted) (x .enter .ensures) (e .if1 .left) .described), e .if1 .left))
     (λ c. c .entry-read .ensures ∙ sym (answer (entered-at (c .before .before .before)))))

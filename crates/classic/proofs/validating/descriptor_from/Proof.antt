@@ -20,5 +20,4 @@ descriptor-from-spec =
     let nextword = c .before .before .before in
     let vind = nextword .before .before .before .before in
     record { fits = vind .before .before .before .before .pre .gex })
-    (λ c κs. search needs)
-    (λ c. rw (c .record-numbers .ensures)))
+    (λ c. search needs))
