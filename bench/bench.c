@@ -41,13 +41,19 @@ typedef union {
     classic_appended appended;
 } answer;
 
-/* What a call took: the ratio, and the nanoseconds on each side. */
+/* What is timed: the library, or the careful C, on a file of an order. */
 typedef struct {
-    double ratio, library, careful;
+    int careful;
+    int32_t order;
+} side;
+
+/* What a call took on two sides: the ratio, and the nanoseconds of each. */
+typedef struct {
+    double ratio, ns[2];
 } timing;
 
-/* The file that is read, and one for each side to append to; and what is handed to an append. */
-static uint8_t file[FILE_BYTES], written[2][FILE_BYTES];
+/* The files that are read, by their order; one for each of two sides to append to; and what is handed to an append. */
+static uint8_t files[2][FILE_BYTES], written[2][FILE_BYTES];
 static uint8_t index_words[4 * 256], content[DATA_BYTES];
 static int32_t ids[SECTIONS_MAX];
 static int64_t lengths[SECTIONS_MAX];
@@ -69,8 +75,9 @@ static classic_appended append_by(int careful, const shape *s, uint8_t *to) {
                                     content, section_bytes, content, data_bytes);
 }
 
-/* Makes a call of the library: of an entry or an extension by its number, of the section that stands last. */
-static void by_library(call c, const shape *s, uint64_t number, answer *a) {
+/* Makes a call of the library on a file, or an append to one: of an entry or an extension by its number, of the section that
+   stands last. */
+static void by_library(call c, const shape *s, const uint8_t *file, uint8_t *to, uint64_t number, answer *a) {
     switch (c) {
     case VALIDATE: a->descriptor = classic_validate(file, s->bytes); break;
     case EXTENSION: a->extension = classic_extension_of(file, s->bytes, number); break;
@@ -79,12 +86,12 @@ static void by_library(call c, const shape *s, uint64_t number, answer *a) {
     case SECTION: a->part = classic_section(file, s->bytes, number, (int32_t)s->sections); break;
     case DATA: a->part = classic_data(file, s->bytes, number); break;
     case CHECK: a->checked = classic_check(file, s->bytes); break;
-    default: a->appended = append_by(0, s, written[0]); break;
+    default: a->appended = append_by(0, s, to); break;
     }
 }
 
 /* Makes the same call in C. */
-static void by_careful(call c, const shape *s, uint64_t number, answer *a) {
+static void by_careful(call c, const shape *s, const uint8_t *file, uint8_t *to, uint64_t number, answer *a) {
     switch (c) {
     case VALIDATE: a->descriptor = careful_validate(file, s->bytes); break;
     case EXTENSION: a->extension = careful_extension_of(file, s->bytes, number); break;
@@ -93,7 +100,7 @@ static void by_careful(call c, const shape *s, uint64_t number, answer *a) {
     case SECTION: a->part = careful_section(file, s->bytes, number, (int32_t)s->sections); break;
     case DATA: a->part = careful_data(file, s->bytes, number); break;
     case CHECK: a->checked = careful_check(file, s->bytes); break;
-    default: a->appended = append_by(1, s, written[1]); break;
+    default: a->appended = append_by(1, s, to); break;
     }
 }
 
@@ -128,13 +135,13 @@ static int same_answer(call c, const answer *a, const answer *b) {
     }
 }
 
-/* Makes a call on both sides and compares what they answer, and the two files after an append. */
-static void compare(call c, const shape *s, uint64_t number) {
+/* Makes a call by the library and by the C and compares what they answer, and the two files after an append. */
+static void compare(call c, const shape *s, int32_t order, uint64_t number) {
     static answer a, b;
     int same;
-    if (c == APPEND) memcpy(written[0], file, s->bytes), memcpy(written[1], file, s->bytes);
-    by_library(c, s, number, &a);
-    by_careful(c, s, number, &b);
+    if (c == APPEND) memcpy(written[0], files[order], s->bytes), memcpy(written[1], files[order], s->bytes);
+    by_library(c, s, files[order], written[0], number, &a);
+    by_careful(c, s, files[order], written[1], number, &b);
     same = same_answer(c, &a, &b) && (c != APPEND || memcmp(written[0], written[1], s->bytes) == 0);
     compared++;
     if (!same && ++differing <= 10) printf("DIFFERS %s of %llu, %s\n", call_names[c], (unsigned long long)number, s->name);
@@ -144,6 +151,7 @@ static void compare(call c, const shape *s, uint64_t number) {
 
 /* Makes a file of a shape in an order. */
 static void make(const shape *s, int32_t order) {
+    uint8_t *file = files[order];
     classic_settings settings = {order, s->reclen, 1, 2, s->lind, 0, s->lex1, s->gex};
     memset(file, 0, s->bytes);
     for (size_t i = 0; i < SECTIONS_MAX; i++) ids[i] = (int32_t)i + 1, lengths[i] = 1;
@@ -174,33 +182,42 @@ static double median(double *numbers, size_t count) {
 /* The nanoseconds of so many calls of a side, in a run. Before an append the counts of its file are put back, so that it is
    made again. Each run has its answers at another place of a page: where an answer lies at the place of the table that it is
    copied from, the copy takes longer. */
-static double time_of(int careful, call c, const shape *s, uint64_t number, size_t times, int run) {
+static double time_of(side w, call c, const shape *s, uint8_t *to, uint64_t number, size_t times, int run) {
     static answer answers[RUNS];
+    const uint8_t *file = files[w.order];
     double began = now();
     for (size_t i = 0; i < times; i++) {
-        if (c == APPEND) memcpy(written[careful] + 24, file + 24, 20);
-        if (careful) by_careful(c, s, number, &answers[run]);
-        else by_library(c, s, number, &answers[run]);
+        if (c == APPEND) memcpy(to + 24, file + 24, 20);
+        if (w.careful) by_careful(c, s, file, to, number, &answers[run]);
+        else by_library(c, s, file, to, number, &answers[run]);
     }
     return now() - began;
 }
 
-/* Times a call on both sides, in turn, and compares its answers. */
-static timing timed(call c, const shape *s, uint64_t number) {
-    static double ratios[RUNS], library[RUNS], careful[RUNS];
+/* Times a call on two sides, in turn. */
+static timing timed(side one, side other, call c, const shape *s, uint64_t number) {
+    static double ratios[RUNS], times_of[2][RUNS];
+    const side sides[2] = {one, other};
     timing t;
     size_t times = 1;
-    compare(c, s, number);
-    while (time_of(1, c, s, number, times, 0) < RUN_NS) times *= 2;
+    for (int k = 0; k < 2 && c == APPEND; k++) memcpy(written[k], files[sides[k].order], s->bytes);
+    while (time_of(other, c, s, written[1], number, times, 0) < RUN_NS) times *= 2;
     for (int i = 0; i < RUNS; i++) {
-        double first = time_of(i % 2, c, s, number, times, i), second = time_of(1 - i % 2, c, s, number, times, i);
-        library[i] = i % 2 ? second : first, careful[i] = i % 2 ? first : second;
-        ratios[i] = library[i] / careful[i];
+        for (int k = 0; k < 2; k++) {
+            int which = (i + k) % 2;
+            times_of[which][i] = time_of(sides[which], c, s, written[which], number, times, i);
+        }
+        ratios[i] = times_of[0][i] / times_of[1][i];
     }
     t.ratio = median(ratios, RUNS);
-    t.library = median(library, RUNS) / (double)times;
-    t.careful = median(careful, RUNS) / (double)times;
+    for (int k = 0; k < 2; k++) t.ns[k] = median(times_of[k], RUNS) / (double)times;
     return t;
+}
+
+/* Times the library against the C, on a file of an order, and compares their answers. */
+static timing against_careful(call c, const shape *s, int32_t order, uint64_t number) {
+    compare(c, s, order, number);
+    return timed((side){0, order}, (side){1, order}, c, s, number);
 }
 
 /* ---- the table */
@@ -216,7 +233,7 @@ enum { SHAPES = sizeof shapes / sizeof shapes[0] };
 
 /* The number that a call is asked for: the last entry, or the last extension. */
 static uint64_t last_of(call c, const shape *s) {
-    return c == EXTENSION ? classic_validate(file, s->bytes).nex : s->entries;
+    return c == EXTENSION ? classic_validate(files[CLASSIC_LITTLE], s->bytes).nex : s->entries;
 }
 
 static void print_table(void) {
@@ -229,13 +246,13 @@ static void print_table(void) {
     for (call c = VALIDATE; c < CALLS; c++) {
         printf("%-14s", call_names[c]);
         for (int i = 0; i < SHAPES; i++) {
-            timing t[2];
-            for (int32_t order = 0; order < 2; order++) {
-                make(&shapes[i], order);
-                t[order] = timed(c, &shapes[i], last_of(c, &shapes[i]));
-            }
-            printf("  %-9.2f %-9.2f", t[0].ratio, t[1].ratio);
-            if (t[1].library / t[0].library > turned) turned = t[1].library / t[0].library;
+            const shape *s = &shapes[i];
+            timing orders;
+            make(s, CLASSIC_LITTLE), make(s, CLASSIC_BIG);
+            printf("  %-9.2f", against_careful(c, s, CLASSIC_LITTLE, last_of(c, s)).ratio);
+            printf(" %-9.2f", against_careful(c, s, CLASSIC_BIG, last_of(c, s)).ratio);
+            orders = timed((side){0, CLASSIC_BIG}, (side){0, CLASSIC_LITTLE}, c, s, last_of(c, s));
+            if (orders.ratio > turned) turned = orders.ratio;
         }
         printf("\n");
     }
@@ -246,8 +263,8 @@ static void print_table(void) {
 static void print_row(const char *what, call c, const shape *s, size_t each) {
     timing t;
     make(s, CLASSIC_LITTLE);
-    t = timed(c, s, last_of(c, s));
-    printf("%-44s %5.2f   %8.1f ns, in C %8.1f ns\n", what, t.ratio, t.library / (double)each, t.careful / (double)each);
+    t = against_careful(c, s, CLASSIC_LITTLE, last_of(c, s));
+    printf("%-48s %5.2f   %8.1f ns, in C %8.1f ns\n", what, t.ratio, t.ns[0] / (double)each, t.ns[1] / (double)each);
 }
 
 static void print_growth(void) {
@@ -272,19 +289,20 @@ static uint32_t random_number(void) {
     return random_state >> 8;
 }
 
-/* Compares all calls on the file as it is, for some numbers of entries and extensions. */
-static void compare_all(const shape *s) {
+/* Compares all calls on the file of an order as it is, for some numbers of entries and extensions. */
+static void compare_all(const shape *s, int32_t order) {
     uint64_t numbers[] = {0, 1, s->entries / 2, s->entries, s->entries + 1};
     for (size_t i = 0; i < sizeof numbers / sizeof numbers[0]; i++) {
-        for (call c = EXTENSION; c <= DATA; c++) compare(c, s, c == EXTENSION ? numbers[i] % 19 : numbers[i]);
+        for (call c = EXTENSION; c <= DATA; c++) compare(c, s, order, c == EXTENSION ? numbers[i] % 19 : numbers[i]);
     }
-    compare(VALIDATE, s, 0);
-    compare(CHECK, s, 0);
-    compare(APPEND, s, 0);
+    compare(VALIDATE, s, order, 0);
+    compare(CHECK, s, order, 0);
+    compare(APPEND, s, order, 0);
 }
 
 /* Changes a byte of the first record, of an index area or of an entry, compares, and puts it back. */
-static void compare_changed(const shape *s) {
+static void compare_changed(const shape *s, int32_t order) {
+    uint8_t *file = files[order];
     classic_entry e = classic_open(file, s->bytes, 1 + random_number() % s->entries);
     size_t at = random_number() % 200, part = random_number() % 3;
     uint8_t before;
@@ -292,7 +310,7 @@ static void compare_changed(const shape *s) {
     if (part == 2) at = 4 * (size_t)s->reclen + random_number() % 96;
     before = file[at];
     file[at] = random_number() % 2 ? (uint8_t)random_number() : (uint8_t)(before ^ 1u << random_number() % 8);
-    compare_all(s);
+    compare_all(s, order);
     file[at] = before;
 }
 
@@ -302,8 +320,8 @@ static int count_answers(void) {
         for (int32_t order = 0; order < 2; order++) {
             long before = differing, from = compared;
             make(&shapes[i], order);
-            compare_all(&shapes[i]);
-            for (int k = 0; k < CHANGES; k++) compare_changed(&shapes[i]);
+            compare_all(&shapes[i], order);
+            for (int k = 0; k < CHANGES; k++) compare_changed(&shapes[i], order);
             if (differing == before) passed++;
             else failed++;
             printf("%s %s, order %d: %ld answers agree\n", differing == before ? "ok" : "FAILED", shapes[i].name, (int)order,
