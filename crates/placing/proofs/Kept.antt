@@ -57,7 +57,7 @@ unfolding nexAfter
 nex-kept d q = rw q
 
 -- where entries fit the extensions in use and do not fill them, there is one
-in-use : (g : Growth) (n k : ℕ) → entriesFit g k n ≡ true → (n ≡ totalOf g k → ⊥) → 1 ≤ k
+pub in-use : (g : Growth) (n k : ℕ) → entriesFit g k n ≡ true → (n ≡ totalOf g k → ⊥) → 1 ≤ k
 in-use g n zero e h = absurd (h (omega (arith, eqb-true n 0 (rw (fit-none g n) at e), total-none g)))
 in-use g n (suc k) e h = omega arith
 

@@ -2,12 +2,10 @@
 use Prim.Native.Nat.{ℕ, _+_, _/_, _≤_, _<_}
 use mathlib.Core.Path.{_≡_, sym}
 use mathlib.Core.Bool.{cond}
-use mathlib.Core.List.{List}
 use native.Mathlib.Omega.{arith}
 use borrow.Author.Tests.{leb-true, ltb-true, le-leb, lt-leb, eqb-true, eq-eqb, ne-eqb}
 use lib.Dec.{leb, eqb}
 use Rattle.outcome.proofs.Either.{either}
-use Rattle.geometry.specs.declared.units.RecordNumber.{RecordNumber}
 use Rattle.geometry.specs.Growth.{capacityOf}
 use Rattle.descriptor.specs.declared.numbers.DescriptorNumbers.{DescriptorNumbers}
 use Rattle.descriptor.specs.FirstRecord.{mexOf, growthIn}
@@ -44,30 +42,29 @@ module _ (d : DescriptorNumbers) where
         let a = hold-split (extensionRules d) (spaceRules bytes d nword) (all-hold (placementRules bytes d nword) (omega arith) e) in
         record { extensible = rows-extensible (a .0); inside = leb-true (entryStart d + nword) (bytes / 4) (a .1 .0) }
 
-    module _ (addresses : List RecordNumber) where
-      -- refused by 23
-      pub place-unextended : (extensionRefusal d ≡ 0 → ⊥) → placementOf bytes d addresses nword ≡ unplaced (extensionRefusal d) d addresses
-      unfolding placementOf
-      place-unextended n = rw (refusal-parts, ne-eqb (extensionRefusal d) 0 n, ne-eqb (extensionRefusal d) 0 n)
+    -- refused by 23
+    pub place-unextended : (extensionRefusal d ≡ 0 → ⊥) → placementOf bytes d nword ≡ unplaced (extensionRefusal d)
+    unfolding placementOf
+    place-unextended n = rw (refusal-parts, ne-eqb (extensionRefusal d) 0 n, ne-eqb (extensionRefusal d) 0 n)
 
-      -- refused by 24
-      pub place-outside : extensionRefusal d ≡ 0 → bytes / 4 < entryStart d + nword → placementOf bytes d addresses nword ≡ unplaced 24 d addresses
-      unfolding placementOf
-      place-outside e l = rw (refusal-parts, e, lt-leb (entryStart d + nword) (bytes / 4) l)
+    -- refused by 24
+    pub place-outside : extensionRefusal d ≡ 0 → bytes / 4 < entryStart d + nword → placementOf bytes d nword ≡ unplaced 24
+    unfolding placementOf
+    place-outside e l = rw (refusal-parts, e, lt-leb (entryStart d + nword) (bytes / 4) l)
 
-      -- accepted
-      pub place-given : extensionRefusal d ≡ 0 → entryStart d + nword ≤ bytes / 4 → placementOf bytes d addresses nword ≡ placedAt d addresses nword
-      unfolding placementOf
-      place-given e l = rw (refusal-parts, e, le-leb (entryStart d + nword) (bytes / 4) l)
+    -- accepted
+    pub place-given : extensionRefusal d ≡ 0 → entryStart d + nword ≤ bytes / 4 → placementOf bytes d nword ≡ placedAt d
+    unfolding placementOf
+    place-given e l = rw (refusal-parts, e, le-leb (entryStart d + nword) (bytes / 4) l)
 
-      -- the refusal of the place is that of the rules
-      pub place-refusal : placementOf bytes d addresses nword .refusal ≡ placementRefusal bytes d nword
-      unfolding placementOf
-      place-refusal =
-          let n = placementRefusal bytes d nword in
-          either (eqb n 0) (λ q. rw q (sym (eqb-true n 0 q))) (λ q. rw q)
+    -- the refusal of the place is that of the rules
+    pub place-refusal : placementOf bytes d nword .refusal ≡ placementRefusal bytes d nword
+    unfolding placementOf
+    place-refusal =
+        let n = placementRefusal bytes d nword in
+        either (eqb n 0) (λ q. rw q (sym (eqb-true n 0 q))) (λ q. rw q)
 
-      -- and where they are passed it is the place that they admit
-      pub place-stands : placementRefusal bytes d nword ≡ 0 → placementOf bytes d addresses nword ≡ placedAt d addresses nword
-      unfolding placementOf
-      place-stands e = rw (eq-eqb (placementRefusal bytes d nword) 0 e)
+    -- and where they are passed it is the place that they admit
+    pub place-stands : placementRefusal bytes d nword ≡ 0 → placementOf bytes d nword ≡ placedAt d
+    unfolding placementOf
+    place-stands e = rw (eq-eqb (placementRefusal bytes d nword) 0 e)

@@ -1,16 +1,12 @@
-// The numbers and the addresses of a file after an append.
-use super::areas::new_area;
+// The numbers of a file after an append.
 use descriptor::DescriptorNumbers;
 use geometry::EntryNumber;
-use geometry::RecordNumber;
 use geometry::place_at;
 ghost use mathlib.Core.Path.{_≡_};
 ghost use Prim.Native.Nat.{_^_, _≤_, _<_};
 ghost use Rattle.outcome.specs.Outcome.{Answers};
-ghost use Rattle.descriptor.specs.FirstRecord.{freeOf};
-ghost use Rattle.descriptor.specs.Bounds.{Settled, Free};
-ghost use Rattle.placing.specs.Placing.{full, nexAfter, numbersAfter, addressesAfter};
-ghost use Rattle.placing.specs.Bounds.{Extensible};
+ghost use Rattle.descriptor.specs.Bounds.{Settled};
+ghost use Rattle.placing.specs.Placing.{full, nexAfter, numbersAfter};
 
 // The extensions in use after an append.
 fn nex_after(d: DescriptorNumbers, extends: bool) -> u64
@@ -24,7 +20,7 @@ fn nex_after(d: DescriptorNumbers, extends: bool) -> u64
 }
 
 // The numbers after an append whose entry ends at a position.
-pub(crate) fn numbers_after(d: DescriptorNumbers, extends: bool, end: u64) -> DescriptorNumbers
+pub fn numbers_after(d: DescriptorNumbers, extends: bool, end: u64) -> DescriptorNumbers
     requires { ⌜ Settled d × (d .xnext .0 < 2 ^ 63) × (extends ≡ full d) × (end < 2 ^ 32) ⌝ }
     ensures { λ r. ⌜ Answers (numbersAfter d end) r ⌝ }
 {
@@ -46,23 +42,4 @@ pub(crate) fn numbers_after(d: DescriptorNumbers, extends: bool, end: u64) -> De
         nex: nex_after(d, extends),
         gex: d.gex,
     }
-}
-
-// The addresses after it.
-pub(crate) fn addresses_after(
-    d: DescriptorNumbers,
-    addresses: [RecordNumber; 16],
-    extends: bool,
-) -> [RecordNumber; 16]
-    requires { ⌜ Settled d × Free d × (freeOf d ≤ 2 ^ 28) × (extends ≡ full d) × Extensible d ⌝ }
-    ensures { λ r. ⌜ Answers (addressesAfter d addresses) r ⌝ }
-{
-    if extends {
-        let area = new_area(d);
-        let mut table = addresses;
-        let index = d.nex as usize;
-        table[index] = area;
-        return table;
-    }
-    addresses
 }

@@ -1,19 +1,20 @@
 -- What holds of an accepted append: its words are within the bytes lent, its numbers are admitted again, and its index has a slot before it. Assumes nothing.
-use Prim.Native.Nat.{ℕ, _+_, _*_, _/_, _^_, _≤_}
+use Prim.Native.Nat.{ℕ, _+_, _*_, _-_, _/_, _^_, _≤_}
 use mathlib.Core.Path.{_≡_, refl, ap}
-use mathlib.Core.Bool.{true}
+use mathlib.Core.Bool.{true, false}
 use mathlib.Core.List.{List}
 use native.Mathlib.Omega.{arith}
-use borrow.Author.Tests.{eqb-true}
+use borrow.Author.Tests.{eqb-true, eqb-false}
 use lib.ListN.{length}
 use Rattle.geometry.specs.declared.units.RecordNumber.{RecordNumber}
 use Rattle.geometry.specs.declared.units.EntryNumber.{EntryNumber}
-use Rattle.geometry.specs.Units.{entriesBefore}
+use Rattle.geometry.specs.Units.{positionOf, entriesBefore}
 use Rattle.geometry.specs.Growth.{totalOf}
-use Rattle.geometry.proofs.Slots.{slot-begins}
+use Rattle.geometry.proofs.Slots.{Holds, slot-held, slot-begins}
 use Rattle.descriptor.specs.declared.numbers.DescriptorNumbers.{DescriptorNumbers}
-use Rattle.descriptor.specs.FirstRecord.{growthIn}
+use Rattle.descriptor.specs.FirstRecord.{aexOf, growthIn}
 use Rattle.descriptor.specs.Bounds.{Admitted}
+use Rattle.descriptor.proofs.Fitting.{fit-reach, fit-full}
 use Rattle.pieces.specs.EntryDescriptor.{wordOffset}
 use Rattle.layout.specs.EntryWords.{firstContent}
 use Rattle.entry.specs.Opening.{slotPositionOf}
@@ -22,7 +23,8 @@ use Rattle.storing.specs.Handed.{Handed, sumOf, nsecIn, ldataIn, nwordIn
 use Rattle.placing.specs.Placing.{full, newStart, entryStart, numbersAfter, addressesAfter}
 use Rattle.storing.specs.Writing.{behind, headFrom, headOf}
 use Rattle.storing.specs.Bounds.{Fitting, Accepted}
-use Rattle.placing.proofs.Kept.{kept, nex-full, address-new, free-after}
+use Rattle.placing.specs.Bounds.{Extensible}
+use Rattle.placing.proofs.Kept.{kept, in-use, nex-full, nex-kept, addresses-kept, address-new, free-after}
 
 -- ---- the numbers of what is handed in
 
@@ -57,6 +59,47 @@ module _ (d : DescriptorNumbers) (h : Handed) (f : Fitting d h) where
   -- so the head is made of counts of bytes
   pub head-counted : (number : EntryNumber) → headFrom (h .version) (length (h .ids)) (length (h .sections) / 4) (length (h .values) / 4) number ≡ headOf h number
   head-counted number = ap (λ (n : ℕ). headFrom (h .version) (length (h .ids)) n (length (h .values) / 4) number) section-words
+
+-- ---- the slot of a new entry
+
+-- the last extension in use holds it, where they are not full
+pub held-next : (bytes : ℕ) (d : DescriptorNumbers) (addresses : List RecordNumber) → Admitted bytes d addresses → full d ≡ false → Holds (growthIn d) (d .xnext .0) (d .nex)
+unfolding full
+held-next bytes d addresses a q =
+    let g = growthIn d in
+    let n = entriesBefore (d .xnext) in
+    let other = eqb-false n (totalOf g (d .nex)) q in
+    let used = in-use g n (d .nex) (a .fit) other in
+    let reach = fit-reach g n (d .nex) (a .fit) in
+    record { counted = used; behind = omega (arith, a .counted, fit-full g n (d .nex) used (a .fit)); reached = omega (arith, a .counted) }
+
+module _ (bytes : ℕ) (d : DescriptorNumbers) (addresses : List RecordNumber) (a : Admitted bytes d addresses) (x : Extensible d) where
+  -- it stands before the entry: it is where it would be if the file ended where the entry starts
+  pub slot-before : entryStart d ≤ bytes / 4 → slotPositionOf (numbersAfter d (entryStart d)) (addressesAfter d addresses) (d .xnext) + d .lind ≤ entryStart d
+  unfolding numbersAfter
+  slot-before inside =
+      let k = kept bytes d addresses a x (entryStart d) (omega arith) inside in
+      let free = free-after bytes d addresses a x (entryStart d) (omega arith) inside in
+      omega (arith, slot-inside bytes (numbersAfter d (entryStart d)) (addressesAfter d addresses) k (d .xnext) (a .counted) (omega arith))
+
+  module _ (end : ℕ) where
+    -- in a new area it is slot 1
+    pub slot-new : full d ≡ true → slotPositionOf (numbersAfter d end) (addressesAfter d addresses) (d .xnext) ≡ newStart d
+    unfolding full slotPositionOf numbersAfter
+    slot-new q =
+        let all = eqb-true (entriesBefore (d .xnext)) (totalOf (growthIn d) (d .nex)) q in
+        let first = slot-begins (growthIn d) (d .nex) (d .lind) (d .xnext) (omega (arith, all, a .counted)) in
+        rw (nex-full d q, first, address-new bytes d addresses a x q) (omega arith)
+
+    -- otherwise the next one of the last area in use
+    pub slot-next : full d ≡ false → slotPositionOf (numbersAfter d end) (addressesAfter d addresses) (d .xnext)
+        ≡ positionOf (d .reclen) (aexOf addresses (d .nex)) (record { 0 = 1 }) + (entriesBefore (d .xnext) - totalOf (growthIn d) (d .nex - 1)) * d .lind
+    unfolding slotPositionOf numbersAfter
+    slot-next q =
+        let held = held-next bytes d addresses a q in
+        let place : d .xnext .0 - totalOf (growthIn d) (d .nex - 1) - 1 ≡ entriesBefore (d .xnext) - totalOf (growthIn d) (d .nex - 1) = omega (arith, held .behind) in
+        let there = slot-held (growthIn d) (d .nex) (d .lind) (d .xnext) (d .nex) (held .reached) held in
+        rw (nex-kept d q, ← there, addresses-kept bytes d addresses a x (d .nex) (held .counted) (omega arith)) (rw place)
 
 -- ---- the accepted append
 
@@ -95,18 +138,7 @@ module _ (bytes : ℕ) (d : DescriptorNumbers) (addresses : List RecordNumber) (
   unfolding numbersAfter
   slot-first = slot-low bytes after addressesThen admitted-after (d .xnext) (x .admitted .counted) (omega (arith, number-last))
 
-  -- and before the entry: it is where it would be if the file ended where the entry starts
+  -- and before the entry
   pub slot-last : slotThen + d .lind ≤ entryStart d
   unfolding numbersAfter slotPositionOf
-  slot-last =
-      let a = kept bytes d addresses (x .admitted) (x .extensible) (entryStart d) (omega arith) (omega (arith, x .inside)) in
-      let free = free-after bytes d addresses (x .admitted) (x .extensible) (entryStart d) (omega arith) (omega (arith, x .inside)) in
-      omega (arith, slot-inside bytes (numbersAfter d (entryStart d)) addressesThen a (d .xnext) (x .admitted .counted) (omega arith))
-
-  -- in a new area it is slot 1
-  pub slot-new : full d ≡ true → slotThen ≡ newStart d
-  unfolding full slotPositionOf numbersAfter
-  slot-new q =
-      let all = eqb-true (entriesBefore (d .xnext)) (totalOf (growthIn d) (d .nex)) q in
-      let first = slot-begins (growthIn d) (d .nex) (d .lind) (d .xnext) (omega (arith, all, x .admitted .counted)) in
-      rw (nex-full d q, first, address-new bytes d addresses (x .admitted) (x .extensible) q) (omega arith)
+  slot-last = slot-before bytes d addresses (x .admitted) (x .extensible) (omega (arith, x .inside))

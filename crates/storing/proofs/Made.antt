@@ -85,7 +85,7 @@ module _ (bytes : ℕ) (d : DescriptorNumbers) (addresses : List RecordNumber) (
   extended : full d ≡ true → Extended
   extended q =
       let s = x .admitted .settled in
-      record { low = new-low d s; high = omega (arith, new-slot d s, start-extended d q); here = slot-new bytes d addresses h x q; room = nex-more d s (x .extensible) q .1 }
+      record { low = new-low d s; high = omega (arith, new-slot d s, start-extended d q); here = slot-new bytes d addresses (x .admitted) (x .extensible) _ q; room = nex-more d s (x .extensible) q .1 }
 
   -- ---- they are apart
 

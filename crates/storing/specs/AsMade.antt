@@ -13,7 +13,7 @@ use Rattle.geometry.specs.declared.units.RecordNumber.{RecordNumber}
 use Rattle.geometry.specs.declared.units.EntryNumber.{EntryNumber}
 use Rattle.geometry.specs.declared.units.EntryAddress.{EntryAddress}
 use Rattle.geometry.specs.declared.units.Place.{Place}
-use Rattle.geometry.specs.Units.{placeOf, offsetOf, entriesBefore}
+use Rattle.geometry.specs.Units.{placeOf, offsetOf}
 use Rattle.layout.specs.FirstRecordWords.{nexWord, aexWord}
 use Rattle.layout.specs.EntryWords.{firstContent}
 use Rattle.descriptor.specs.declared.numbers.DescriptorNumbers.{DescriptorNumbers}
@@ -21,11 +21,11 @@ use Rattle.descriptor.specs.FirstRecord.{freeOf}
 use Rattle.pieces.specs.EntryDescriptor.{wordOffset}
 use Rattle.entry.specs.Opening.{slotPositionOf}
 use Rattle.placing.specs.declared.placement.Placement.{Placement}
-use Rattle.placing.specs.Placing.{full, newArea, newStart, entryStart}
+use Rattle.placing.specs.Placing.{full, newArea, newStart, entryStart, numbersAfter, addressesAfter}
 use Rattle.placing.specs.Placement.{placedAt}
 use Rattle.fields.specs.FieldWrites.{field, countWrites}
 use Rattle.storing.specs.declared.head.Head.{Head}
-use Rattle.storing.specs.Handed.{Handed, nwordIn}
+use Rattle.storing.specs.Handed.{Handed}
 use Rattle.storing.specs.Writing.{headOf, headWrites, tableWrites, slotWrites}
 
 -- the descriptor of an entry that starts at a position: its head and its tables
@@ -39,11 +39,7 @@ piecesWrites start first sections values =
     put (wordOffset start first + length sections) values ∷
     []
 
--- the last entry of these numbers
-abbrev pub lastEntry : DescriptorNumbers → EntryNumber
-lastEntry d = record { 0 = entriesBefore (d .xnext) }
-
--- its index, by its number
+-- the index of an entry, by its number
 abbrev pub indexWrites : DescriptorNumbers → List RecordNumber → EntryNumber → Place → List ℕ → List Write
 indexWrites after addresses number place index = slotWrites (after .order) (slotPositionOf after addresses number) place index
 
@@ -70,14 +66,15 @@ abbrev pub restWrites : DescriptorNumbers → List Write
 restWrites d = cond (full d) (clearAround (freeOf d) (newStart d) (newStart d + d .lind) (entryStart d) ++ extensionWrites d) []
 
 -- all of them, for an entry with this head at its place
-abbrev pub storeWrites : DescriptorNumbers → Placement → Head → Handed → List Write
-storeWrites d placed head h =
+abbrev pub storeWrites : DescriptorNumbers → List RecordNumber → Placement → Head → Handed → List Write
+storeWrites d addresses placed head h =
+    let after = numbersAfter d (placed .start + head .nword) in
     descriptorWrites (d .order) (placed .start) head (h .ids) (h .lengths) ++
     (piecesWrites (placed .start) (firstContent (head .nsec)) (h .sections) (h .values) ++
-    (indexWrites (placed .numbers) (placed .addresses) (d .xnext) (placeOf (d .reclen) (placed .start)) (h .index) ++
+    (indexWrites after (addressesAfter d addresses) (d .xnext) (placeOf (d .reclen) (placed .start)) (h .index) ++
     (restWrites d ++
-    countWrites (placed .numbers))))
+    countWrites after)))
 
 -- for what is handed in
 abbrev pub appendWrites : DescriptorNumbers → List RecordNumber → Handed → List Write
-appendWrites d addresses h = storeWrites d (placedAt d addresses (nwordIn h)) (headOf h (d .xnext)) h
+appendWrites d addresses h = storeWrites d addresses (placedAt d) (headOf h (d .xnext)) h

@@ -6,11 +6,10 @@ use mathlib.Core.List.{List}
 use lib.IntN.{ℤ}
 use lib.ListN.{length}
 use Rattle.geometry.specs.declared.units.RecordNumber.{RecordNumber}
-use Rattle.geometry.specs.Growth.{totalOf}
-use Rattle.geometry.specs.Totals.{totalBefore}
+use Rattle.layout.specs.FileCode.{byteOrderOf}
 use Rattle.layout.specs.EntryWords.{sectionsMax, descriptorWords}
 use Rattle.descriptor.specs.declared.numbers.DescriptorNumbers.{DescriptorNumbers}
-use Rattle.descriptor.specs.FirstRecord.{growthIn}
+use Rattle.descriptor.specs.FirstRecord.{addressesOf}
 use Rattle.descriptor.specs.Bounds.{Admitted}
 use Rattle.placing.specs.declared.placement.Placement.{Placement}
 use Rattle.placing.specs.Placing.{entryStart}
@@ -36,17 +35,12 @@ pub record Accepted (bytes : ℕ) (d : DescriptorNumbers) (addresses : List Reco
   pub extensible : Extensible d
   pub inside : entryStart d + nwordIn h ≤ bytes / 4
 
--- an accepted append at its place, with its head: all that storing asks for
-pub record Storing (bytes : ℕ) (d : DescriptorNumbers) (placed : Placement) (head : Head) (h : Handed) : Type 0 where
-  pub addresses : List RecordNumber
-  pub accepted : Accepted bytes d addresses h
-  pub stands : placed ≡ placedAt d addresses (nwordIn h)
+-- an accepted append to a file at its place, with its head: all that storing asks for
+pub record Storing (file : List ℕ) (d : DescriptorNumbers) (placed : Placement) (head : Head) (h : Handed) : Type 0 where
+  pub order : d .order ≡ byteOrderOf file
+  pub accepted : Accepted (length file) d (addressesOf file (d .nex)) h
+  pub stands : placed ≡ placedAt d
   pub headed : head ≡ headOf h (d .xnext)
-
--- a table of totals says what the extensions before the last hold together
-pub record BeforeLast (d : DescriptorNumbers) (totals : List ℕ) : Type 0 where
-  pub table : length totals ≡ 16
-  pub before : totalBefore totals (d .nex) ≡ totalOf (growthIn d) (d .nex - 1)
 
 -- a descriptor of sections that are counted has its words in the file
 pub record Describing (bytes start : ℕ) (head : Head) (ids lengths : List ℤ) : Type 0 where

@@ -13,5 +13,4 @@ pub use head::Head;
 pub use head::head_of;
 pub use steps::put_content;
 pub use steps::put_descriptor;
-pub use steps::put_index;
 pub use storing::store;

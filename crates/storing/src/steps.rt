@@ -1,33 +1,36 @@
-// The first steps of storing an accepted append, one after the other: the entry's descriptor, its content, and its index.
+// The slot of a new entry, and the first steps of storing an accepted append, one after the other: the entry's
+// descriptor, its content, and its index.
 // The content may come from other slices: only its step reads them.
 use super::head::Head;
 use super::head::put_head;
 use super::tables::put_tables;
 use descriptor::DescriptorNumbers;
+use descriptor::inner::aex_in;
 use geometry::EntryAddress;
 use geometry::ExtensionNumber;
 use geometry::Place;
-use geometry::RecordNumber;
 use geometry::WordNumber;
 use geometry::byte_offset;
 use geometry::entries_before;
 use geometry::entry_position;
 use geometry::position;
-use geometry::table_index;
 use geometry::total_before;
+use placing::new_area;
 use words::ByteOrder;
 ghost use mathlib.Core.Path.{_≡_};
-ghost use Prim.Native.Nat.{_+_, _*_, _-_, _^_, _≤_, _<_};
+ghost use Prim.Native.Nat.{_+_, _*_, _^_, _≤_, _<_};
 ghost use lib.ListN.{length};
 ghost use Rattle.outcome.specs.Outcome.{Answers, Leaves};
 ghost use Rattle.image.specs.Writes.{writes};
-ghost use Rattle.geometry.specs.Units.{entriesBefore};
-ghost use Rattle.descriptor.specs.Bounds.{Admitted};
+ghost use Rattle.descriptor.specs.FirstRecord.{addressesOf};
+ghost use Rattle.descriptor.specs.Bounds.{AdmittedIn, TotalsOf};
 ghost use Rattle.pieces.specs.EntryDescriptor.{wordOffset};
 ghost use Rattle.entry.specs.Opening.{slotPositionOf};
-ghost use Rattle.storing.specs.Bounds.{Describing, BeforeLast};
+ghost use Rattle.placing.specs.Placing.{full, entryStart, numbersAfter, addressesAfter};
+ghost use Rattle.placing.specs.Bounds.{Extensible};
+ghost use Rattle.storing.specs.Bounds.{Describing};
 ghost use Rattle.storing.specs.Writing.{slotWrites};
-ghost use Rattle.storing.specs.AsMade.{descriptorWrites, piecesWrites, indexWrites, lastEntry};
+ghost use Rattle.storing.specs.AsMade.{descriptorWrites, piecesWrites};
 
 // Writes the descriptor of the entry: its head and its tables.
 pub fn put_descriptor(
@@ -55,47 +58,27 @@ pub fn put_content(file: &mut [u8], start: u64, first: EntryAddress, sections: &
     image::put(file, at + sections.len(), values);
 }
 
+// The position of the slot of a new entry: the first of a new index area, or the next one of the last area in
+// use, behind the slots of those that the totals do not count before it.
+pub(crate) fn new_slot(file: &[u8], d: DescriptorNumbers, extends: bool, totals: &[u64]) -> u64
+    requires { ⌜ AdmittedIn (now file) d (addressesOf (now file) (d .nex)) × TotalsOf d (now totals) × (extends ≡ full d) × Extensible d ⌝ }
+    ensures { λ r. ⌜ Answers (slotPositionOf (numbersAfter d (entryStart d)) (addressesAfter d (addressesOf (now (file .entry)) (d .nex))) (d .xnext)) r ⌝ }
+{
+    if extends {
+        return position(d.reclen, new_area(d), WordNumber(1));
+    }
+    let extension = ExtensionNumber(d.nex);
+    let first = aex_in(d.order, file, extension);
+    let before = entries_before(d.xnext) - total_before(totals, extension);
+    position(d.reclen, first, WordNumber(1)) + before * d.lind
+}
+
 // Writes the index of the entry: where it starts, and the application's words.
-fn put_slot(order: ByteOrder, file: &mut [u8], slot: u64, place: Place, index: &[u8])
+pub(crate) fn put_slot(order: ByteOrder, file: &mut [u8], slot: u64, place: Place, index: &[u8])
     requires { ⌜ (slot < 2 ^ 32) × (place .word .0 < 2 ^ 32) × (4 * (slot + 3) + length (now index) ≤ length (now file)) ⌝ }
     ensures { λ _. ⌜ Leaves (writes (now (file .entry)) (slotWrites order slot place (now (index .entry)))) (now (file .exit)) ⌝ }
 {
     words::put_u64(order, file, byte_offset(slot), place.record.0);
     words::put_u32(order, file, byte_offset(slot + 2), place.word.0 as u32);
     image::put(file, byte_offset(slot + 3), index);
-}
-
-// The position of the slot of the last entry: it stands in the last extension in use, behind the slots of
-// those that the totals do not count before it.
-fn last_slot(
-    bytes: u64,
-    numbers: DescriptorNumbers,
-    addresses: [RecordNumber; 16],
-    totals: &[u64],
-) -> u64
-    requires { ⌜ Admitted bytes numbers addresses × BeforeLast numbers (now totals) × (1 ≤ entriesBefore (numbers .xnext)) ⌝ }
-    ensures { λ r. ⌜ Answers (slotPositionOf numbers addresses (lastEntry numbers)) r ⌝ }
-{
-    let extension = ExtensionNumber(numbers.nex);
-    let place = entries_before(numbers.xnext) - total_before(totals, extension);
-    let index = table_index(extension);
-    let first = addresses[index];
-    position(numbers.reclen, first, WordNumber(1)) + (place - 1) * numbers.lind
-}
-
-// Writes the index of the last entry of these numbers.
-pub fn put_index(
-    file: &mut [u8],
-    numbers: DescriptorNumbers,
-    addresses: [RecordNumber; 16],
-    totals: &[u64],
-    place: Place,
-    index: &[u8],
-)
-    requires { ⌜ Admitted (length (now file)) numbers addresses × BeforeLast numbers (now totals) × (1 ≤ entriesBefore (numbers .xnext))
-        × (place .word .0 ≤ 4096) × (length (now index) ≡ 4 * (numbers .lind - 3)) ⌝ }
-    ensures { λ _. ⌜ Leaves (writes (now (file .entry)) (indexWrites numbers addresses (lastEntry numbers) place (now (index .entry)))) (now (file .exit)) ⌝ }
-{
-    let slot = last_slot(file.len() as u64, numbers, addresses, totals);
-    put_slot(numbers.order, file, slot, place, index)
 }

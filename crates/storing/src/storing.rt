@@ -1,17 +1,19 @@
 // Storing an accepted append at its place.
 use super::area::put_rest;
 use super::head::Head;
+use super::steps::new_slot;
 use super::steps::put_content;
 use super::steps::put_descriptor;
-use super::steps::put_index;
+use super::steps::put_slot;
 use descriptor::DescriptorNumbers;
 use fields::put_counts;
 use geometry::place_at;
 use layout::entry_descriptor::first_content;
 use placing::Placement;
-ghost use lib.ListN.{length};
+use placing::numbers_after;
 ghost use Rattle.outcome.specs.Outcome.{Leaves};
 ghost use Rattle.image.specs.Writes.{writes};
+ghost use Rattle.descriptor.specs.FirstRecord.{addressesOf};
 ghost use Rattle.descriptor.specs.Bounds.{TotalsOf};
 ghost use Rattle.storing.specs.Handed.{handedIn, handed};
 ghost use Rattle.storing.specs.AsMade.{storeWrites};
@@ -31,9 +33,10 @@ pub fn store(
     sections: &[u8],
     values: &[u8],
 )
-    requires { ⌜ Storing (length (now file)) d placed head (handedIn (head .version) (now index) (now ids) (now lengths) (now sections) (now values)) × TotalsOf d (now totals) ⌝ }
-    ensures { λ _. ⌜ Leaves (writes (now (file .entry)) (storeWrites d placed head (handed (head .version) index ids lengths sections values))) (now (file .exit)) ⌝ }
+    requires { ⌜ Storing (now file) d placed head (handedIn (head .version) (now index) (now ids) (now lengths) (now sections) (now values)) × TotalsOf d (now totals) ⌝ }
+    ensures { λ _. ⌜ Leaves (writes (now (file .entry)) (storeWrites d (addressesOf (now (file .entry)) (d .nex)) placed head (handed (head .version) index ids lengths sections values))) (now (file .exit)) ⌝ }
 {
+    let slot = new_slot(file, d, placed.extends, totals);
     put_descriptor(d.order, file, placed.start, head, ids, lengths);
     put_content(
         file,
@@ -42,16 +45,10 @@ pub fn store(
         sections,
         values,
     );
-    let numbers = placed.numbers;
-    let addresses = placed.addresses;
-    put_index(
-        file,
-        numbers,
-        addresses,
-        totals,
-        place_at(d.reclen, placed.start),
-        index,
-    );
+    put_slot(d.order, file, slot, place_at(d.reclen, placed.start), index);
     put_rest(file, d, placed.extends, placed.start);
-    put_counts(file, numbers);
+    put_counts(
+        file,
+        numbers_after(d, placed.extends, placed.start + head.nword),
+    );
 }

@@ -10,7 +10,7 @@ use Rattle.writer.specs.Answers.{appendIn, fileIn, appendOf, fileAfter}
 
 module _ (file : List ℕ) (v : Validation) (case : Validated) (e : v ≡ validationOf file) (q : v .numbers ≡ case) (h : Handed) where
   -- what the append answers
-  pub append-by : appendOf file h ≡ appendIn file case (v .addresses) h
+  pub append-by : appendOf file h ≡ appendIn file case h
   append-by = rw (← e, ← q)
 
   -- the file that it leaves

@@ -1,7 +1,6 @@
 // Appending an entry to a file.
 use super::inner::append_from;
 use descriptor::Validated;
-use descriptor::inner::addresses_of;
 use descriptor::inner::admit;
 use descriptor::refusal_of;
 use geometry::EntryNumber;
@@ -37,10 +36,8 @@ pub fn append(
             number: EntryNumber(0),
         };
     };
-    let addresses = addresses_of(d.order, file, d.nex);
-    let appended = append_from(
+    append_from(
         d,
-        addresses,
         &totals,
         file,
         version,
@@ -49,10 +46,5 @@ pub fn append(
         lengths,
         sections,
         values,
-    );
-    let number = appended.number;
-    Appended {
-        refusal: appended.refusal,
-        number,
-    }
+    )
 }

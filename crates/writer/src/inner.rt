@@ -1,35 +1,24 @@
-// Appending to a file whose numbers and addresses are at hand, as after validating it.
+// Appending to a file whose numbers are at hand, as after validating it.
+use super::appending::Appended;
 use super::rules::handed_refusal;
 use descriptor::DescriptorNumbers;
 use geometry::EntryNumber;
-use geometry::RecordNumber;
 use placing::place;
 use storing::head_of;
 use storing::store;
-ghost use lib.ListN.{length};
 ghost use Rattle.outcome.specs.Outcome.{Answers};
-ghost use Rattle.descriptor.specs.Bounds.{Admitted, TotalsOf};
+ghost use Rattle.descriptor.specs.FirstRecord.{addressesOf};
+ghost use Rattle.descriptor.specs.Bounds.{AdmittedIn, TotalsOf};
 ghost use Rattle.storing.specs.Handed.{handed};
 ghost use Rattle.writer.specs.Answers.{refusedFrom, AppendsFrom};
 
-// The answer of `append_from`: the refusal, 0 when accepted; the new number, 0 when refused; and the
-// numbers and addresses of the file as it is after the call.
-pub struct AppendedFrom {
-    pub refusal: u32,
-    pub number: EntryNumber,
-    pub numbers: DescriptorNumbers,
-    pub addresses: [RecordNumber; 16],
-}
-
-// The answer of a refused append: the numbers and addresses stay.
-fn refused_from(refusal: u32, d: DescriptorNumbers, addresses: [RecordNumber; 16]) -> AppendedFrom
-    ensures { λ r. ⌜ Answers (refusedFrom refusal d addresses) r ⌝ }
+// The answer of a refused append.
+fn refused_from(refusal: u32) -> Appended
+    ensures { λ r. ⌜ Answers (refusedFrom refusal) r ⌝ }
 {
-    AppendedFrom {
+    Appended {
         refusal,
         number: EntryNumber(0),
-        numbers: d,
-        addresses,
     }
 }
 
@@ -37,7 +26,6 @@ fn refused_from(refusal: u32, d: DescriptorNumbers, addresses: [RecordNumber; 16
 // nothing.
 pub fn append_from(
     d: DescriptorNumbers,
-    addresses: [RecordNumber; 16],
     totals: &[u64],
     file: &mut [u8],
     version: i32,
@@ -46,13 +34,13 @@ pub fn append_from(
     lengths: &[i64],
     sections: &[u8],
     values: &[u8],
-) -> AppendedFrom
-    requires { ⌜ Admitted (length (now file)) d addresses × TotalsOf d (now totals) ⌝ }
-    ensures { λ r. ⌜ AppendsFrom (now (file .entry)) d addresses (handed version index ids lengths sections values) r (now (file .exit)) ⌝ }
+) -> Appended
+    requires { ⌜ AdmittedIn (now file) d (addressesOf (now file) (d .nex)) × TotalsOf d (now totals) ⌝ }
+    ensures { λ r. ⌜ AppendsFrom (now (file .entry)) d (handed version index ids lengths sections values) r (now (file .exit)) ⌝ }
 {
     let handed = handed_refusal(d, index, ids, lengths, sections, values);
     if handed != 0 {
-        return refused_from(handed, d, addresses);
+        return refused_from(handed);
     }
     let head = head_of(
         version,
@@ -61,9 +49,9 @@ pub fn append_from(
         (values.len() / 4) as u64,
         d.xnext,
     );
-    let placed = place(file.len() as u64, d, addresses, totals, head.nword);
+    let placed = place(file.len() as u64, d, totals, head.nword);
     if placed.refusal != 0 {
-        return refused_from(placed.refusal, d, addresses);
+        return refused_from(placed.refusal);
     }
     store(
         file,
@@ -78,12 +66,5 @@ pub fn append_from(
         values,
     );
     let number = d.xnext;
-    let numbers = placed.numbers;
-    let table = placed.addresses;
-    AppendedFrom {
-        refusal: 0,
-        number,
-        numbers,
-        addresses: table,
-    }
+    Appended { refusal: 0, number }
 }

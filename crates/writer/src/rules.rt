@@ -2,8 +2,7 @@
 use descriptor::DescriptorNumbers;
 use geometry::byte_offset;
 use layout::entry_descriptor::PLACES;
-ghost use mathlib.Core.Path.{_≡_};
-ghost use mathlib.Core.Bool.{true};
+ghost use mathlib.Core.Bool.{_&&_};
 ghost use Prim.Native.Nat.{_≤_};
 ghost use lib.ListN.{length};
 ghost use lib.Dec.{eqb};
@@ -47,25 +46,10 @@ fn are_distinct(ids: &[i32]) -> bool
     true
 }
 
-// Whether each length is 1 or more.
-fn are_positive(lengths: &[i64]) -> bool
-    ensures { λ r. ⌜ Answers (positive (now (lengths .entry)) (length (now (lengths .entry)))) r ⌝ }
-{
-    let mut passed = 0;
-    while passed < lengths.len() {
-        if lengths[passed] < 1 {
-            return false;
-        }
-        passed += 1;
-    }
-    true
-}
-
-// Whether so many bytes are the words of all lengths together. The sum is never formed, so it cannot
-// wrap: what is left of the bytes is lessened by each length in turn.
+// Whether each length is 1 or more, and so many bytes are the words of all of them together. The sum is never
+// formed, so it cannot wrap: what is left of the bytes is lessened by each length in turn.
 fn make_up(lengths: &[i64], bytes: usize) -> bool
-    requires { ⌜ positive (now lengths) (length (now lengths)) ≡ true ⌝ }
-    ensures { λ r. ⌜ Answers (eqb bytes (offsetOf (sumOf (now (lengths .entry))))) r ⌝ }
+    ensures { λ r. ⌜ Answers (positive (now (lengths .entry)) (length (now (lengths .entry))) && eqb bytes (offsetOf (sumOf (now (lengths .entry))))) r ⌝ }
 {
     if bytes % 4 != 0 {
         return false;
@@ -73,7 +57,11 @@ fn make_up(lengths: &[i64], bytes: usize) -> bool
     let mut left = (bytes / 4) as u64;
     let mut passed = 0;
     while passed < lengths.len() {
-        let words = words::bits64(lengths[passed]);
+        let length = lengths[passed];
+        if length < 1 {
+            return false;
+        }
+        let words = words::bits64(length);
         if left < words {
             return false;
         }
@@ -105,9 +93,6 @@ pub(crate) fn handed_refusal(
         return 22;
     }
     if !are_distinct(ids) {
-        return 22;
-    }
-    if !are_positive(lengths) {
         return 22;
     }
     if !make_up(lengths, sections.len()) {

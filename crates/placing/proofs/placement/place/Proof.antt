@@ -3,8 +3,7 @@ use Prim.Native.Nat.{_+_, _/_, _≤_, _<_}
 use mathlib.Core.Path.{_≡_, sym, _∙_}
 use native.Mathlib.Omega.{arith}
 use borrow.Author.Needs.{needs}
-use Rattle.descriptor.proofs.Admitting.{free-small, xnext-small}
-use Rattle.placing.specs.Placing.{entryStart, numbersAfter}
+use Rattle.placing.specs.Placing.{entryStart}
 use Rattle.placing.specs.Rules.{extensionRefusal}
 use Rattle.placing.specs.Bounds.{Extensible}
 use Rattle.placing.proofs.Places.{start-small}
@@ -28,55 +27,33 @@ returns c =
     let s = c .before .before .before .before .before in
     let e = c .before .before .extension-refusal .ensures in
     let e' : extensionRefusal (s .args .d) ≡ c .before .before .extension-refusal .result = sym e in
-    c .no-place .ensures ∙ sym (place-unextended (s .args .d) (s .args .bytes) (s .args .nword) (s .args .addresses) (λ q. c .before .if1 .taken (e ∙ q)) ∙ rw e')
+    c .no-place .ensures ∙ sym (place-unextended (s .args .d) (s .args .bytes) (s .args .nword) (λ q. c .before .if1 .taken (e ∙ q)) ∙ rw e')
 
 entry-start-requires : tie.Need-entry-start-requires
 entry-start-requires c κs =
     let s = c .before .before .before .before in
-    let a = s .pre .0 in
-    (a .settled, a .free, free-small _ _ _ a, c .before .before .is-full .ensures, may-extend c)
+    (s .pre .0, s .pre .1, s .pre .2, c .before .before .is-full .ensures, may-extend c)
 
 add-end : tie.Need-add-end
 add-end c =
     let s = c .before .before .before .before .before in
-    let a = s .pre .0 in
-    omega (arith, end c, start-small (s .args .d) (a .settled) (free-small _ _ _ a) (may-extend (c .before)), s .pre .2)
+    omega (arith, end c, start-small (s .args .d) (s .pre .0) (s .pre .2) (may-extend (c .before)), s .pre .5)
 
 returns-2 : tie.Need-returns-2
 returns-2 c =
     let p = c .before .before in
     let s = p .before .before .before .before .before in
     let far : s .args .bytes / 4 < entryStart (s .args .d) + s .args .nword = omega (arith, end p, c .before .if2 .taken) in
-    c .no-place2 .ensures ∙ sym (place-outside (s .args .d) (s .args .bytes) (s .args .nword) (s .args .addresses) (passed (p .before)) far)
-
-numbers-after-requires : tie.Need-numbers-after-requires
-numbers-after-requires c κs =
-    let p = c .before in
-    let s = p .before .before .before .before .before in
-    let a = s .pre .0 in
-    (a .settled, xnext-small _ _ _ a, p .before .before .before .is-full .ensures, omega (arith, c .if2 .left, a .lent .high))
-
-addresses-after-requires : tie.Need-addresses-after-requires
-addresses-after-requires c κs =
-    let p = c .before .before in
-    let s = p .before .before .before .before .before in
-    let a = s .pre .0 in
-    (a .settled, a .free, free-small _ _ _ a, p .before .before .before .is-full .ensures, may-extend (p .before))
+    c .no-place2 .ensures ∙ sym (place-outside (s .args .d) (s .args .bytes) (s .args .nword) (passed (p .before)) far)
 
 returns-3 : tie.Need-returns-3
 returns-3 c =
-    let p = c .before .before .before in
+    let p = c .before in
     let s = p .before .before .before .before .before in
     let d = s .args .d in
-    let near : entryStart d + s .args .nword ≤ s .args .bytes / 4 = omega (arith, end p, c .before .before .if2 .left) in
-    (λ i. record {
-      refusal = 0;
-      extends = p .before .before .before .is-full .ensures i;
-      start = p .entry-start .ensures i;
-      numbers = (c .before .numbers-after .ensures ∙ (λ j. numbersAfter d (end p j))) i;
-      addresses = c .addresses-after .ensures i;
-    })
-    ∙ sym (place-given d (s .args .bytes) (s .args .nword) (s .args .addresses) (passed (p .before)) near)
+    let near : entryStart d + s .args .nword ≤ s .args .bytes / 4 = omega (arith, end p, c .if2 .left) in
+    (λ i. record { refusal = 0; extends = p .before .before .before .is-full .ensures i; start = p .entry-start .ensures i })
+    ∙ sym (place-given d (s .args .bytes) (s .args .nword) (passed (p .before)) near)
 
 pub place-spec : {M : Type 1} → statement M
 place-spec =
@@ -90,6 +67,4 @@ place-spec =
     add-end
     (λ c κs. search needs)
     returns-2
-    numbers-after-requires
-    addresses-after-requires
     returns-3)

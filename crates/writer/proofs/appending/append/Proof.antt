@@ -1,14 +1,11 @@
 -- `writer::appending::append` meets its contract: it validates, and appends from what that shows. Assumes nothing.
-use mathlib.Core.Path.{_≡_, refl, sym, ap, _∙_}
-use native.Mathlib.Omega.{arith}
+use mathlib.Core.Path.{refl, sym, _∙_}
 use denote.Ref.{now}
 use mir.Facts.{toZ-ofZ}
 use borrow.Author.Needs.{needs}
 use Rattle.descriptor.specs.declared.validating.Validated.the-variants.{Numbers, Refused}
-use Rattle.descriptor.specs.declared.validating.Validation.{Validation}
-use Rattle.descriptor.specs.Answers.{validationOf, noValidation}
+use Rattle.descriptor.specs.Answers.{noValidation}
 use Rattle.descriptor.proofs.Answered.{Admits, case-told, case-left}
-use Rattle.writer.specs.declared.inner.AppendedFrom.{AppendedFrom}
 use Rattle.writer.specs.Answers.{appendIn, fileIn}
 use Rattle.writer.proofs.Answering.{append-by, file-by}
 use Rattle.writer.proofs.appending.append.Statement.{statement}
@@ -21,21 +18,9 @@ began c = let p : tie.After-admit-arg = c .before .before in p .before .before .
 abbrev called : tie.After-case → tie.After-admit
 called c = c .before .before .before
 
-abbrev admitted-at : tie.After-addresses-of → tie.After-case
-admitted-at c = c .before .before .before
-
 -- what the numbers that validating gave show
 shown : (c : tie.After-case) → let a = called c in Admits (began a .args .file .now) (c .case .given .0 .0) (a .admit .last .1 .0)
 shown c = let a = called c .admit in case-told _ (a .result) (a .ensures .0) (a .ensures .1) (c .case .given .1)
-
--- the validation, with the addresses that were read
-abbrev validation : tie.After-addresses-of → Validation
-validation c = record { refusal = 0; numbers = Numbers (admitted-at c .case .given .0 .0); addresses = c .addresses-of .result }
-
-validates : (c : tie.After-addresses-of) → validation c ≡ validationOf (began (called (admitted-at c)) .args .file .now)
-validates c =
-    let e = admitted-at c in
-    (λ i. record { refusal = 0; numbers = Numbers (e .case .given .0 .0); addresses = c .addresses-of .ensures i }) ∙ sym (shown e .validation)
 
 returns : tie.Need-returns
 unfolding appendIn fileIn
@@ -49,19 +34,20 @@ returns c =
 
 append-from-requires : tie.Need-append-from-requires
 append-from-requires c κs =
-    let x = c .before .before in
-    let p = shown (admitted-at x) in
-    (rw (x .addresses-of .ensures) (p .admitted .admitted), p .table)
+    let p = shown (c .before .before .before) in
+    (p .admitted, p .table)
 
 returns-2 : tie.Need-returns-2
 unfolding appendIn fileIn
 returns-2 c =
-    let r = c .before .before .before in
-    let x = r .before .before .before in
-    let s = began (called (admitted-at x)) in
-    let d = admitted-at x .case .given .0 .0 in
+    let r = c .before .before in
+    let k = r .before .before .before .before in
+    let s = began (called k) in
+    let file = s .args .file .now in
+    let d = k .case .given .0 .0 in
+    let told = sym (shown k .validation) in
     let a = rw (toZ-ofZ (s .fits .version)) at (r .append-from .ensures) in
-    (ap (λ (y : AppendedFrom). record { refusal = y .refusal; number = y .number }) (a .0) ∙ sym (append-by (s .args .file .now) (validation x) (Numbers d) (validates x) refl _), a .1 ∙ sym (file-by (s .args .file .now) (validation x) (Numbers d) (validates x) refl _))
+    (a .0 ∙ sym (append-by file _ (Numbers d) told refl _), a .1 ∙ sym (file-by file _ (Numbers d) told refl _))
 
 pub append-spec : {M : Type 1} → statement M
 append-spec =
@@ -74,10 +60,6 @@ append-spec =
     (λ c κs. search needs)
     (λ c. search needs)
     returns
-    (λ c κs.
-    let p = shown (c .before .before) in
-    let a = p .admitted .admitted in
-    (p .admitted .order, a .settled .nex-high, omega (arith, a .settled .nex-room, a .lent .first)))
     (λ c. search needs)
     append-from-requires
     (λ c. search needs)

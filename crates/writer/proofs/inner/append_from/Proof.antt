@@ -1,11 +1,12 @@
 -- `writer::inner::append_from` meets its contract: it refuses what is handed in, or its place, or stores it. Assumes nothing.
-use Prim.Native.Nat.{ℕ}
 use mathlib.Core.Path.{_≡_, sym, ap, _∙_}
 use native.Mathlib.Omega.{arith}
 use borrow.Author.Needs.{needs}
 use lib.ListN.{length}
 use mir.Facts.{toZ-ofZ}
 use Rattle.image.specs.Writes.{writes}
+use Rattle.descriptor.specs.FirstRecord.{addressesOf}
+use Rattle.descriptor.proofs.Admitting.{free-small}
 use Rattle.placing.specs.declared.placement.Placement.{Placement}
 use Rattle.placing.specs.Rules.{placementRefusal}
 use Rattle.placing.specs.Placement.{placedAt, placementOf}
@@ -56,20 +57,20 @@ nword c = let s = from-head c in ap (λ (r : Head). r .nword) (headed c) ∙ hea
 
 -- the place
 given : (c : tie.After-place) → let s = from-place c in
-    c .place .result ≡ placementOf (length (s .args .file .now)) (s .args .d) (s .args .addresses) (nwordIn (handed s))
-given c = let s = from-place c in c .place .ensures ∙ ap (placementOf (length (s .args .file .now)) (s .args .d) (s .args .addresses)) (nword (c .before))
+    c .place .result ≡ placementOf (length (s .args .file .now)) (s .args .d) (nwordIn (handed s))
+given c = let s = from-place c in c .place .ensures ∙ ap (placementOf (length (s .args .file .now)) (s .args .d)) (nword (c .before))
 
 found : (c : tie.After-place) → let s = from-place c in
     c .place .result .refusal ≡ placementRefusal (length (s .args .file .now)) (s .args .d) (nwordIn (handed s))
-found c = let s = from-place c in ap (λ (p : Placement). p .refusal) (given c) ∙ place-refusal (s .args .d) _ _ (s .args .addresses)
+found c = let s = from-place c in ap (λ (p : Placement). p .refusal) (given c) ∙ place-refusal (s .args .d) _ _
 
 returns : tie.Need-returns
 returns c =
     let p = c .before .before in
     let s = began p in
     let e = p .handed-refusal .ensures in
-    let r = refused-handed (s .args .file .now) (s .args .d) (s .args .addresses) (handed s) (λ q. c .before .if1 .taken (e ∙ q)) in
-    (c .refused-from .ensures ∙ ap (λ (n : ℕ). refusedFrom n (s .args .d) (s .args .addresses)) e ∙ r .0, r .1)
+    let r = refused-handed (s .args .file .now) (s .args .d) (handed s) (λ q. c .before .if1 .taken (e ∙ q)) in
+    (c .refused-from .ensures ∙ ap refusedFrom e ∙ r .0, r .1)
 
 head-of-requires : tie.Need-head-of-requires
 head-of-requires c κs =
@@ -80,52 +81,54 @@ head-of-requires c κs =
 place-requires : tie.Need-place-requires
 place-requires c κs =
     let f = fits (c .before) in
-    (from-head c .pre .0, from-head c .pre .1, omega (arith, nword c, f .few, section-words _ _ f, c .before .before .before .before, c .before .before .before))
+    let a = from-head c .pre .0 .admitted in
+    (a .settled, a .free, free-small _ _ _ a, a .counted, from-head c .pre .1, omega (arith, nword c, f .few, section-words _ _ f, c .before .before .before .before, c .before .before .before))
 
 returns-2 : tie.Need-returns-2
 returns-2 c =
     let p = c .before .before .before in
     let s = from-place p in
     let e = found p in
-    let r = refused-place (s .args .file .now) (s .args .d) (s .args .addresses) (handed s) (passed (p .before .before)) (λ q. c .before .if2 .taken (e ∙ q)) in
-    (c .refused-from2 .ensures ∙ ap (λ (n : ℕ). refusedFrom n (s .args .d) (s .args .addresses)) e ∙ r .0, r .1)
+    let r = refused-place (s .args .file .now) (s .args .d) (handed s) (passed (p .before .before)) (λ q. c .before .if2 .taken (e ∙ q)) in
+    (c .refused-from2 .ensures ∙ ap refusedFrom e ∙ r .0, r .1)
 
 -- there is no refusal
 none : (c : tie.Else2) → let s = from-place (c .before .before) in appendRefusal (length (s .args .file .now)) (s .args .d) (handed s) ≡ 0
 none c =
     let p = c .before .before in
     let s = from-place p in
-    refused-none (s .args .file .now) (s .args .d) (s .args .addresses) (handed s) (passed (p .before .before)) (sym (found p) ∙ c .if2 .left)
+    refused-none (s .args .file .now) (s .args .d) (handed s) (passed (p .before .before)) (sym (found p) ∙ c .if2 .left)
 
-admits : (c : tie.Else2) → let s = from-place (c .before .before) in Accepted (length (s .args .file .now)) (s .args .d) (s .args .addresses) (handed s)
-admits c = let s = from-place (c .before .before) in accepted (s .args .d) (handed s) (length (s .args .file .now)) (s .args .addresses) (s .pre .0) (none c)
+admits : (c : tie.Else2) → let s = from-place (c .before .before) in Accepted (length (s .args .file .now)) (s .args .d) (addressesOf (s .args .file .now) (s .args .d .nex)) (handed s)
+admits c = let s = from-place (c .before .before) in accepted (s .args .d) (handed s) (length (s .args .file .now)) _ (s .pre .0 .admitted) (none c)
 
-stands : (c : tie.Else2) → let s = from-place (c .before .before) in c .before .before .place .result ≡ placedAt (s .args .d) (s .args .addresses) (nwordIn (handed s))
+stands : (c : tie.Else2) → let s = from-place (c .before .before) in c .before .before .place .result ≡ placedAt (s .args .d)
 stands c =
     let p = c .before .before in
     let s = from-place p in
-    given p ∙ place-stands (s .args .d) _ _ (s .args .addresses) (sym (found p) ∙ c .if2 .left)
+    given p ∙ place-stands (s .args .d) _ _ (sym (found p) ∙ c .if2 .left)
 
 store-requires : tie.Need-store-requires
 store-requires c κs =
     let e = c .before in
     let p = e .before .before in
     let s = from-place p in
-    (storing _ (s .args .d) (s .args .addresses) _ _ (handed s) (admits e) (stands e) (headed (p .before)), s .pre .1)
+    (storing _ (s .args .d) _ _ (handed s) (s .pre .0 .order) (admits e) (stands e) (headed (p .before)), s .pre .1)
 
 returns-3 : tie.Need-returns-3
 returns-3 c =
-    let r = c .before .before .before .before .before in
+    let r = c .before .before .before in
     let e = r .before .before in
     let p = e .before .before in
     let s = from-place p in
     let a = s .args in
     let h = handed s in
-    let done = accepted-from (a .file .now) (a .d) (a .addresses) h (none e) in (
-      (λ i. record { refusal = 0; number = a .d .xnext; numbers = stands e i .numbers; addresses = stands e i .addresses }) ∙ done .0,
+    let done = accepted-from (a .file .now) (a .d) h (none e) in
+    let table = addressesOf (a .file .now) (a .d .nex) in (
+      done .0,
       r .store .ensures
-          ∙ (λ i. writes (a .file .now) (storeWrites (a .d) (stands e i) (headed (p .before) i) (versioned h (headed (p .before) i))))
-          ∙ made-appended _ (a .d) (a .addresses) h (admits e) (a .file .now)
+          ∙ (λ i. writes (a .file .now) (storeWrites (a .d) table (stands e i) (headed (p .before) i) (versioned h (headed (p .before) i))))
+          ∙ made-appended _ (a .d) table h (admits e) (a .file .now)
           ∙ done .1,
     )
 
