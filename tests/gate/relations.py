@@ -26,7 +26,7 @@ RELATIONS = {
     "IsPart": Relation("handing", "Parts", "value value answer"),
     "Creates": Relation("writer", "Creation", "value value answer exit"),
     "Appends": Relation("writer", "Answers", "value value answer exit"),
-    "AppendsFrom": Relation("writer", "Answers", "value value value value answer exit"),
+    "AppendsFrom": Relation("writer", "Answers", "value value value answer exit"),
     "AppendsBatch": Relation("batch", "Answers", "value value answer exit"),
     "AppendsInTurn": Relation("batch", "Answers", "value value answer exit"),
     "Updates": Relation("update", "Answers", "value value answer exit"),

@@ -1,4 +1,4 @@
--- Appends in turn, from numbers and addresses at hand: what stands before each of them, and what each does. Assumes nothing.
+-- Appends in turn, from numbers at hand: what stands before each of them, and what each does. Assumes nothing.
 use Prim.Native.Nat.{ℕ, _+_, _≤_, _<_}
 use mathlib.Core.Path.{_≡_, sym, ap, _∙_}
 use mathlib.Core.List.{List, [], _∷_}
@@ -7,20 +7,23 @@ use borrow.Author.Tests.{eqb-true, eq-eqb, ne-eqb}
 use lib.Dec.{eqb}
 use lib.IntN.{ℤ, pos}
 use lib.ListN.{length, getD, drop}
-use Rattle.descriptor.specs.Answers.{Validates}
+use Rattle.descriptor.specs.declared.numbers.DescriptorNumbers.{DescriptorNumbers}
+use Rattle.descriptor.specs.FirstRecord.{numbersOf, addressesOf}
+use Rattle.descriptor.specs.Rules.{fileRefusal}
 use Rattle.descriptor.proofs.Refusals.{all-hold}
 use Rattle.storing.specs.Handed.{Handed}
-use Rattle.writer.specs.Answers.{appendedFrom, appendOf, fileAfter}
+use Rattle.writer.specs.declared.appending.Appended.{Appended}
+use Rattle.writer.specs.Answers.{appendedFrom, fileFrom, appendOf, fileAfter}
 use Rattle.batch.specs.declared.cursor.Cursor.{Cursor}
 use Rattle.batch.specs.declared.turn.Turn.{Turn}
 use Rattle.batch.specs.Batch.{Laid, Batch, countIn, indexBytes, idCount, lengthCount, sectionBytes, dataBytes, together, entriesIn}
 use Rattle.batch.specs.Rules.{batchRules, batchRefusal}
 use Rattle.batch.specs.Cursor.{begun, past, Reached}
-use Rattle.batch.specs.Turn.{nextEntry, endedAt, AppendsNext}
+use Rattle.batch.specs.Turn.{nextEntry, AppendsNext}
 use Rattle.batch.specs.Answers.{answerInTurn, fileInTurn, AppendsInTurn}
 use Rattle.batch.proofs.Columns.{together-next}
 use Rattle.batch.proofs.Entries.{entriesFrom, entries-next, entries-done}
-use Rattle.batch.proofs.Appending.{answer-from, file-from, kept-from, stays-from, validates-from}
+use Rattle.batch.proofs.Appending.{answer-from, file-from, kept-from, validates-from}
 
 -- the rows from row k on use up what is laid from a cursor on
 pub record UsesUp (rows : List (List ℕ)) (at : Cursor) (x : Laid) : Type 0 where
@@ -30,33 +33,30 @@ pub record UsesUp (rows : List (List ℕ)) (at : Cursor) (x : Laid) : Type 0 whe
   pub sections : at .sections + together sectionBytes rows ≡ length (x .sections)
   pub values : at .values + together dataBytes rows ≡ length (x .values)
 
--- a batch ends with what it answered, and with the numbers and addresses of the file as it is then
-ends : (first : List ℕ) (hs : List Handed) (t : Turn) (k : ℕ) (file : List ℕ) → Validates file (t .numbers) (t .areas)
-    → record { refusal = t .refusal; accepted = k } ≡ answerInTurn 0 first hs → file ≡ fileInTurn first hs → AppendsInTurn first hs (endedAt t k) file
-ends first hs t k file v answer leaves = (rw (← answer, ← leaves, v), leaves)
-
 module _ (first : List ℕ) (b : Batch) where
   -- before entry k, counted from 0: the entries before it were accepted, and what the batch does is what those from here on do to the file as it is
   pub record Before (file : List ℕ) (t : Turn) (k : ℕ) : Type 0 where
     pub within : k ≤ length (b .versions)
     pub rows : length (b .counts) ≡ length (b .versions)
     pub none : t .refusal ≡ 0
-    pub shown : Validates file (t .numbers) (t .areas)
+    pub shown : fileRefusal file ≡ 0
+    pub numbers : t .numbers ≡ numbersOf file
     pub left : UsesUp (drop k (b .counts)) (t .at) (b .laid)
     pub answer : answerInTurn 0 first (entriesIn b) ≡ answerInTurn k file (entriesFrom b k (t .at))
     pub leaves : fileInTurn first (entriesIn b) ≡ fileInTurn file (entriesFrom b k (t .at))
 
   -- so it is before the first, where the batch passed its rules
-  pub before-first : (t : Turn) → t .refusal ≡ 0 → t .at ≡ begun → Validates first (t .numbers) (t .areas) → batchRefusal b ≡ 0 → Before first t 0
+  pub before-first : (t : Turn) → t .refusal ≡ 0 → t .at ≡ begun → fileRefusal first ≡ 0 → t .numbers ≡ numbersOf first → batchRefusal b ≡ 0 → Before first t 0
   unfolding batchRefusal
-  before-first t none start v e =
+  before-first t none start z own e =
       let a = all-hold (batchRules b) (omega arith) e in
       let x = b .laid in
       record {
         within = omega arith;
         rows = eqb-true (length (b .counts)) (length (b .versions)) (a .1 .0);
         none = none;
-        shown = v;
+        shown = z;
+        numbers = own;
         left = rw start record {
           index = omega (arith, eqb-true (together indexBytes (b .counts)) (length (x .index)) (a .1 .1 .0));
           ids = omega (arith, eqb-true (together idCount (b .counts)) (length (x .ids)) (a .1 .1 .1 .0));
@@ -70,10 +70,10 @@ module _ (first : List ℕ) (b : Batch) where
 
   module _ {file : List ℕ} {t : Turn} {k : ℕ} (p : Before file t k) where
     -- past the last: all were accepted
-    pub all-accepted : length (b .versions) ≤ k → AppendsInTurn first (entriesIn b) (endedAt t k) file
+    pub all-accepted : length (b .versions) ≤ k → AppendsInTurn first (entriesIn b) (record { refusal = 0; accepted = k }) file
     all-accepted h =
         let done = entries-done b k (t .at) h in
-        ends first (entriesIn b) t k file (p .shown) (rw (p .none) (sym (p .answer ∙ ap (answerInTurn k file) done))) (sym (p .leaves ∙ ap (fileInTurn file) done))
+        (sym (p .answer ∙ ap (answerInTurn k file) done), sym (p .leaves ∙ ap (fileInTurn file) done))
 
     module _ (h : k < length (b .versions)) where
       -- the counts of entry k
@@ -106,23 +106,24 @@ module _ (first : List ℕ) (b : Batch) where
       rest = entries-next b k (t .at) h (p .rows)
 
       module _ (r : Turn) (after : List ℕ) (m : AppendsNext file t version counts (b .laid) r after) where
-        given : r .refusal ≡ appendedFrom (length file) (t .numbers) (t .areas) entry .refusal
-        given = ap (λ (q : Turn). q .refusal) (m .0)
-
         -- its append answers as one to the file does
         answered : appendOf file entry .refusal ≡ r .refusal
-        answered = answer-from file (t .numbers) (t .areas) entry (p .shown) ∙ sym given
+        answered =
+            let own = sym (p .numbers) in
+            ap (λ (q : Appended). q .refusal) (answer-from file entry (p .shown) ∙ ap (λ (d : DescriptorNumbers). appendedFrom (length file) d entry) own) ∙ sym (ap (λ (q : Turn). q .refusal) (m .0))
 
+        -- and leaves the same file
         left-file : fileAfter file entry ≡ after
-        left-file = file-from file (t .numbers) (t .areas) entry (p .shown) ∙ sym (m .1)
+        left-file =
+            let own = sym (p .numbers) in
+            file-from file entry (p .shown) ∙ ap (λ (d : DescriptorNumbers). fileFrom file d (addressesOf file (d .nex)) entry) own ∙ sym (m .1)
 
         -- refused, it ends the batch
-        pub ended : (r .refusal ≡ 0 → ⊥) → AppendsInTurn first (entriesIn b) (endedAt r k) after
+        pub ended : (r .refusal ≡ 0 → ⊥) → AppendsInTurn first (entriesIn b) (record { refusal = r .refusal; accepted = k }) after
         ended some =
             let stop = ap (λ (n : ℕ). eqb n 0) answered ∙ ne-eqb (r .refusal) 0 some in
-            let v : Validates after (r .numbers) (r .areas) = rw (m .0, m .1) (stays-from file (t .numbers) (t .areas) entry (p .shown) (λ q. some (given ∙ q))) in
-            let same = m .1 ∙ kept-from file (t .numbers) (t .areas) entry (p .shown) (λ q. some (given ∙ q)) in
-            ends first (entriesIn b) r k after v (sym (p .answer ∙ ap (answerInTurn k file) rest ∙ rw (stop, answered))) (same ∙ sym (p .leaves ∙ ap (fileInTurn file) rest ∙ rw stop))
+            let same = sym left-file ∙ kept-from file entry (p .shown) (λ q. some (sym answered ∙ q)) in
+            (sym (p .answer ∙ ap (answerInTurn k file) rest ∙ rw (stop, answered)), same ∙ sym (p .leaves ∙ ap (fileInTurn file) rest ∙ rw stop))
 
         -- accepted, it leaves what stands before the next
         pub before-next : r .refusal ≡ 0 → Before after r (k + 1)
@@ -134,7 +135,8 @@ module _ (first : List ℕ) (b : Batch) where
               within = omega (arith, h);
               rows = p .rows;
               none = none;
-              shown = rw (m .0, m .1) (validates-from file (t .numbers) (t .areas) entry (p .shown) (sym given ∙ none));
+              shown = rw left-file at (validates-from file entry (p .shown));
+              numbers = ap (λ (q : Turn). q .numbers) (m .0) ∙ ap numbersOf (sym (m .1));
               left = rw at record {
                 index = omega (arith, l .index, used indexBytes);
                 ids = omega (arith, l .ids, used idCount);

@@ -4,11 +4,9 @@ use mathlib.Core.Bool.{cond}
 use mathlib.Core.List.{List, [], _∷_}
 use lib.Dec.{eqb}
 use Rattle.outcome.specs.Outcome.{AnswersAndLeaves}
-use Rattle.descriptor.specs.Answers.{validationOf, validatedCase}
 use Rattle.storing.specs.Handed.{Handed}
 use Rattle.writer.specs.Answers.{appendOf, fileAfter}
 use Rattle.batch.specs.declared.batching.Batched.{Batched}
-use Rattle.batch.specs.declared.inner.BatchedFrom.{BatchedFrom}
 use Rattle.batch.specs.Batch.{Batch, entriesIn}
 use Rattle.batch.specs.Rules.{batchRefusal}
 
@@ -24,16 +22,9 @@ abbrev pub fileInTurn : List ℕ → List Handed → List ℕ
 fileInTurn file [] = file
 fileInTurn file (h ∷ hs) = cond (eqb (appendOf file h .refusal) 0) (fileInTurn (fileAfter file h) hs) file
 
--- what they answer from numbers at hand: beside their answer, the numbers and addresses of the file after them
-abbrev pub batchedFrom : List ℕ → List Handed → BatchedFrom
-batchedFrom file hs =
-    let x = answerInTurn 0 file hs in
-    let v = validationOf (fileInTurn file hs) in
-    record { refusal = x .refusal; accepted = x .accepted; numbers = validatedCase (v .numbers) .numbers; addresses = v .addresses }
-
--- what appends in turn promise: that, and the file after them
-abbrev pub AppendsInTurn : List ℕ → List Handed → BatchedFrom → List ℕ → Type 0
-AppendsInTurn file hs answer after = AnswersAndLeaves (batchedFrom file hs) (fileInTurn file hs) answer after
+-- what appends in turn promise: that answer, and that file
+abbrev pub AppendsInTurn : List ℕ → List Handed → Batched → List ℕ → Type 0
+AppendsInTurn file hs answer after = AnswersAndLeaves (answerInTurn 0 file hs) (fileInTurn file hs) answer after
 
 -- what a batch answers: 26 before all else, or what its appends in turn do
 unfoldable pub batchOf : List ℕ → Batch → Batched

@@ -4,12 +4,10 @@ use mathlib.Core.List.{List}
 use lib.IntN.{ℤ}
 use lib.ListN.{length}
 use Rattle.outcome.specs.Outcome.{AnswersAndLeaves}
+use Rattle.descriptor.specs.FirstRecord.{numbersOf, addressesOf}
 use Rattle.storing.specs.Handed.{Handed}
-use Rattle.writer.specs.declared.inner.AppendedFrom.{AppendedFrom}
 use Rattle.writer.specs.Answers.{appendedFrom, fileFrom}
-use Rattle.batch.specs.declared.cursor.Cursor.{Cursor}
 use Rattle.batch.specs.declared.turn.Turn.{Turn}
-use Rattle.batch.specs.declared.inner.BatchedFrom.{BatchedFrom}
 use Rattle.batch.specs.Batch.{Laid}
 use Rattle.batch.specs.Cursor.{past, entryBetween}
 
@@ -17,16 +15,10 @@ use Rattle.batch.specs.Cursor.{past, entryBetween}
 abbrev pub nextEntry : Turn → ℤ → List ℕ → Laid → Handed
 nextEntry t version counts x = entryBetween version (t .at) (past (t .at) counts) x
 
--- after an append from numbers at hand: its refusal, the numbers and addresses after it, and the cursor behind its entry
-abbrev pub turnFrom : AppendedFrom → Cursor → Turn
-turnFrom r next = record { refusal = r .refusal; numbers = r .numbers; areas = r .addresses; at = next }
-
--- the answer where a batch ends, after so many accepted entries
-abbrev pub endedAt : Turn → ℕ → BatchedFrom
-endedAt t accepted = record { refusal = t .refusal; accepted = accepted; numbers = t .numbers; addresses = t .areas }
-
--- what `append_next` promises: that of the append of the next entry, and the file after it
+-- what `append_next` promises: the refusal of the append of the next entry, the numbers of the file after it, and the cursor behind the entry; and that file
 abbrev pub AppendsNext : List ℕ → Turn → ℤ → List ℕ → Laid → Turn → List ℕ → Type 0
 AppendsNext file t version counts x answer after =
+    let d = t .numbers in
     let h = nextEntry t version counts x in
-    AnswersAndLeaves (turnFrom (appendedFrom (length file) (t .numbers) (t .areas) h) (past (t .at) counts)) (fileFrom file (t .numbers) (t .areas) h) answer after
+    let then = fileFrom file d (addressesOf file (d .nex)) h in
+    AnswersAndLeaves (record { refusal = appendedFrom (length file) d h .refusal; numbers = numbersOf then; at = past (t .at) counts }) then answer after

@@ -51,10 +51,8 @@ pub fn append_batch(
             accepted: 0,
         };
     };
-    let addresses = validation.addresses;
-    let batched = append_in_turn(
+    append_in_turn(
         d,
-        addresses,
         file,
         versions,
         counts,
@@ -63,9 +61,5 @@ pub fn append_batch(
         lengths,
         sections,
         values,
-    );
-    Batched {
-        refusal: batched.refusal,
-        accepted: batched.accepted,
-    }
+    )
 }

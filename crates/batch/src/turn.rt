@@ -1,33 +1,31 @@
-// One entry of a batch after the other: each is appended from the numbers and addresses that the one
-// before it gave.
+// One entry of a batch after the other: each is appended from the numbers that the one before it left in the
+// file.
 use super::cursor::Cursor;
 use super::cursor::past_entry;
 use descriptor::DescriptorNumbers;
+use descriptor::inner::numbers_of;
 use geometry::Growth;
-use geometry::RecordNumber;
 use geometry::totals_of;
-use writer::inner::AppendedFrom;
+use writer::Appended;
 use writer::inner::append_from;
-ghost use lib.ListN.{length};
-ghost use Rattle.descriptor.specs.Bounds.{Admitted, TotalsOf};
+ghost use Rattle.descriptor.specs.FirstRecord.{addressesOf};
+ghost use Rattle.descriptor.specs.Bounds.{AdmittedIn, TotalsOf};
 ghost use Rattle.writer.specs.Answers.{AppendsFrom};
 ghost use Rattle.batch.specs.Batch.{laidIn, laid};
 ghost use Rattle.batch.specs.Cursor.{past, entryBetween, Reached};
 ghost use Rattle.batch.specs.Turn.{AppendsNext};
 
-// Where a batch stands: the refusal of its last entry, the numbers and addresses of the file, and the
-// cursor before the next entry.
+// Where a batch stands: the refusal of its last entry, the numbers of the file, and the cursor before the
+// next entry.
 pub struct Turn {
     pub refusal: u32,
     pub numbers: DescriptorNumbers,
-    pub areas: [RecordNumber; 16],
     pub at: Cursor,
 }
 
 // Appends the entry that lies between two cursors to a file of admitted numbers and these totals.
 fn append_between(
     d: DescriptorNumbers,
-    addresses: [RecordNumber; 16],
     totals: &[u64],
     file: &mut [u8],
     version: i32,
@@ -38,9 +36,9 @@ fn append_between(
     lengths: &[i64],
     sections: &[u8],
     values: &[u8],
-) -> AppendedFrom
-    requires { ⌜ Admitted (length (now file)) d addresses × TotalsOf d (now totals) × Reached at next (laidIn (now index) (now ids) (now lengths) (now sections) (now values)) ⌝ }
-    ensures { λ r. ⌜ AppendsFrom (now (file .entry)) d addresses (entryBetween version at next (laid index ids lengths sections values)) r (now (file .exit)) ⌝ }
+) -> Appended
+    requires { ⌜ AdmittedIn (now file) d (addressesOf (now file) (d .nex)) × TotalsOf d (now totals) × Reached at next (laidIn (now index) (now ids) (now lengths) (now sections) (now values)) ⌝ }
+    ensures { λ r. ⌜ AppendsFrom (now (file .entry)) d (entryBetween version at next (laid index ids lengths sections values)) r (now (file .exit)) ⌝ }
 {
     let index_at = at.index;
     let index_end = next.index;
@@ -54,7 +52,6 @@ fn append_between(
     let values_end = next.values;
     append_from(
         d,
-        addresses,
         totals,
         file,
         version,
@@ -78,17 +75,15 @@ pub(crate) fn append_next(
     sections: &[u8],
     values: &[u8],
 ) -> Turn
-    requires { ⌜ Admitted (length (now file)) (turn .numbers) (turn .areas) × Reached (turn .at) (past (turn .at) counts) (laidIn (now index) (now ids) (now lengths) (now sections) (now values)) ⌝ }
+    requires { ⌜ AdmittedIn (now file) (turn .numbers) (addressesOf (now file) (turn .numbers .nex)) × Reached (turn .at) (past (turn .at) counts) (laidIn (now index) (now ids) (now lengths) (now sections) (now values)) ⌝ }
     ensures { λ r. ⌜ AppendsNext (now (file .entry)) turn version counts (laid index ids lengths sections values) r (now (file .exit)) ⌝ }
 {
     let numbers = turn.numbers;
-    let areas = turn.areas;
     let at = turn.at;
     let next = past_entry(at, counts);
     let totals = totals_of(Growth::new(numbers.lex1, numbers.gex), numbers.nex);
     let appended = append_between(
         numbers,
-        areas,
         &totals,
         file,
         version,
@@ -100,12 +95,9 @@ pub(crate) fn append_next(
         sections,
         values,
     );
-    let numbers_after = appended.numbers;
-    let areas_after = appended.addresses;
     Turn {
         refusal: appended.refusal,
-        numbers: numbers_after,
-        areas: areas_after,
+        numbers: numbers_of(file),
         at: next,
     }
 }

@@ -5,6 +5,7 @@ pub(crate) mod areas;
 pub(crate) mod derived;
 mod slots;
 
+pub use crate::numbers::numbers_of;
 pub use addresses::addresses_of;
 pub use admitting::admit;
 pub use areas::aex_in;

@@ -92,7 +92,7 @@ pub(crate) fn field8_at(order: ByteOrder, file: &[u8], word: WordNumber) -> u64
 }
 
 // The numbers as stored in a file.
-pub(crate) fn numbers_of(file: &[u8]) -> DescriptorNumbers
+pub fn numbers_of(file: &[u8]) -> DescriptorNumbers
     requires { ⌜ 64 ≤ length (now file) ⌝ }
     ensures { λ r. ⌜ Answers (numbersOf (now (file .entry))) r ⌝ }
 {

@@ -5,18 +5,15 @@ use mathlib.Core.Path.{_≡_, sym, _∙_}
 use mathlib.Core.List.{List}
 use denote.Ref.{RefT}
 use Rattle.outcome.proofs.Determined.{one-answer, one-file, one-outcome}
-use Rattle.geometry.specs.declared.units.RecordNumber.{RecordNumber}
 use Rattle.descriptor.specs.declared.numbers.Settings.{Settings}
 use Rattle.descriptor.specs.declared.numbers.DescriptorNumbers.{DescriptorNumbers}
 use Rattle.handing.specs.declared.place.PartPlace.{PartPlace}
 use Rattle.handing.specs.Parts.{IsPart}
 use Rattle.writer.specs.declared.appending.Appended.{Appended}
-use Rattle.writer.specs.declared.inner.AppendedFrom.{AppendedFrom}
 use Rattle.writer.specs.Creation.{Creates}
 use Rattle.storing.specs.Handed.{Handed}
 use Rattle.writer.specs.Answers.{Appends, AppendsFrom}
 use Rattle.batch.specs.declared.batching.Batched.{Batched}
-use Rattle.batch.specs.declared.inner.BatchedFrom.{BatchedFrom}
 use Rattle.batch.specs.Batch.{Batch}
 use Rattle.batch.specs.Answers.{AppendsInTurn, AppendsBatch}
 use Rattle.update.specs.Answers.{Update, UpdatesAt, Updates}
@@ -36,12 +33,12 @@ pub append-determined : (file : List ℕ) (h : Handed) (p q : Appended) (f g : L
 append-determined file h p q f g a b = one-outcome a b
 
 -- and one to admitted numbers
-pub append-from-determined : (file : List ℕ) (d : DescriptorNumbers) (addresses : List RecordNumber) (h : Handed) (p q : AppendedFrom) (f g : List ℕ)
-    → AppendsFrom file d addresses h p f → AppendsFrom file d addresses h q g → (p ≡ q) × (f ≡ g)
-append-from-determined file d addresses h p q f g a b = one-outcome a b
+pub append-from-determined : (file : List ℕ) (d : DescriptorNumbers) (h : Handed) (p q : Appended) (f g : List ℕ)
+    → AppendsFrom file d h p f → AppendsFrom file d h q g → (p ≡ q) × (f ≡ g)
+append-from-determined file d h p q f g a b = one-outcome a b
 
 -- and appends in turn
-pub in-turn-determined : (file : List ℕ) (hs : List Handed) (p q : BatchedFrom) (f g : List ℕ) → AppendsInTurn file hs p f → AppendsInTurn file hs q g → (p ≡ q) × (f ≡ g)
+pub in-turn-determined : (file : List ℕ) (hs : List Handed) (p q : Batched) (f g : List ℕ) → AppendsInTurn file hs p f → AppendsInTurn file hs q g → (p ≡ q) × (f ≡ g)
 in-turn-determined file hs p q f g a b = one-outcome a b
 
 -- and a batch of them

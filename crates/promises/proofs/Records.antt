@@ -19,7 +19,9 @@ use Rattle.writer.specs.Rules.{appendRules}
 use Rattle.writer.specs.Answers.{fileAfter}
 use Rattle.batch.specs.Batch.{entriesIn}
 use Rattle.batch.specs.Rules.{batchRules, batchRefusal}
+use Rattle.written.proofs.ReadBack.{shows}
 use Rattle.batch.specs.Answers.{batchOf, fileAfterBatch}
+use Rattle.batch.proofs.Appending.{validates-from}
 use Rattle.update.specs.Rules.{contentRules}
 use Rattle.update.specs.Answers.{spaceOf, placeNamed}
 use Rattle.updated.proofs.Rewritten.{update-kept}
@@ -30,7 +32,7 @@ use Rattle.held.specs.Record.{openFileOf, TrueOf}
 use Rattle.held.specs.Rules.{heldRules, heldRefusal}
 use Rattle.held.proofs.Held.{held-true, true-held, held-27, validated-record, true-shown}
 use Rattle.through.specs.Answers.{Outcome, stays, leaving, noAppend, noBatch, appendThrough, batchThrough, updateThrough}
-use Rattle.through.proofs.Kept.{append-validates, turns-validate}
+use Rattle.through.proofs.Kept.{turns-grow}
 use Rattle.through.proofs.Outcomes.{append-refused, batch-refused, update-refused, batch-counted, append-done, batch-done, update-done}
 use Rattle.promises.specs.Calls.{Call, append, batch, update, AllFit, Answer, appended, batched, updated, refusalOf, countOf, answerOf, afterCall, run, answers}
 use Rattle.promises.specs.Tables.{entryRows, sectionRows, appendToTests, turnRows, batchToTests, updateToTests}
@@ -49,14 +51,17 @@ use Rattle.promises.proofs.Demand3.{start-ordered, demand-3}
 own-record : (file : List ℕ) (d : DescriptorNumbers) (addresses : List RecordNumber) → Validates file d addresses → TrueOf file (openFileOf file .file)
 own-record file d addresses v = record { admitted = ap (λ (x : OpenFileAnswer). x .refusal) (validated-record file d addresses v); same = refl }
 
--- so has the file after a call
-after-record : (file : List ℕ) (d : DescriptorNumbers) (addresses : List RecordNumber) → Validates file d addresses → (c : Call) → let after = afterCall file c in
-    TrueOf after (openFileOf after .file)
+-- so has one that is not refused
+admitted-record : (file : List ℕ) → fileRefusal file ≡ 0 → TrueOf file (openFileOf file .file)
+admitted-record file z = own-record file _ _ (answer-numbers file z)
+
+-- and the file after a call
+after-record : (file : List ℕ) → fileRefusal file ≡ 0 → (c : Call) → let after = afterCall file c in TrueOf after (openFileOf after .file)
 unfolding fileAfterBatch
-after-record file d addresses v (append h) = own-record _ _ _ (append-validates file d addresses h v)
-after-record file d addresses v (batch b) =
-    either (eqb (batchRefusal b) 0) (λ q. rw q (own-record _ _ _ (turns-validate file d addresses (entriesIn b) v))) (λ q. rw q (own-record file d addresses v))
-after-record file d addresses v (update u) = own-record _ d addresses (update-validates file u ∙ v)
+after-record file z (append h) = admitted-record _ (validates-from file h z)
+after-record file z (batch b) =
+    either (eqb (batchRefusal b) 0) (λ q. rw q (admitted-record _ (turns-grow (entriesIn b) file z .passed))) (λ q. rw q (admitted-record file z))
+after-record file z (update u) = own-record _ _ _ (update-validates file u ∙ answer-numbers file z)
 
 -- a refused call that accepts no entry changes no byte
 call-kept : (file : List ℕ) (c : Call) → (refusalOf (answerOf file c) ≡ 0 → ⊥) → countOf (answerOf file c) ≡ 0 → afterCall file c ≡ file
@@ -128,7 +133,7 @@ module _ (file : List ℕ) (held : OpenFile) where
 
     -- and leave it true
     pub through-keeps : TrueOf file held → TrueOf (x .file) (x .held)
-    through-keeps t = rw (through-leaves c t) (after-record file _ _ (true-shown file held t .validates) c)
+    through-keeps t = rw (through-leaves c t) (after-record file (shows file _ _ (true-shown file held t .validates) .admitted) c)
 
     -- calls through a false one leave record and file
     pub through-stays : (TrueOf file held → ⊥) → (x .held ≡ held) × (x .file ≡ file)
@@ -194,5 +199,5 @@ pub demand-3-through : (calls : List Call) → AllFit calls → (file : List ℕ
 demand-3-through calls g file start =
     let held = openFileOf file .file in
     let admitted : fileRefusal file ≡ 0 = order-sound file (start-ordered file start) .admitted in
-    let same = pass-through calls held file (own-record file _ _ (answer-numbers file admitted)) in
+    let same = pass-through calls held file (admitted-record file admitted) in
     (rw (same .0, same .1) (demand-3 calls g file start), same .2)

@@ -31,7 +31,7 @@ use Rattle.entry.specs.Answers.{enteredIn, openedAs, openOf, openCase}
 use Rattle.entry.proofs.Entering.{entered-refusal}
 use Rattle.handing.specs.declared.place.PartPlace.{PartPlace}
 use Rattle.handing.specs.Parts.{noPart, pieceFrom, indexPart, sectionPart, dataPart, partIn, indexWordsOf, sectionWordsOf, dataWordsOf}
-use Rattle.writer.specs.declared.inner.AppendedFrom.{AppendedFrom}
+use Rattle.writer.specs.declared.appending.Appended.{Appended}
 use Rattle.storing.specs.Handed.{Handed}
 use Rattle.writer.specs.Rules.{appendRules, appendRefusal}
 use Rattle.writer.specs.Answers.{acceptedFrom, refusedFrom, appendedFrom, appendIn, appendOf, fileAfter}
@@ -150,8 +150,8 @@ module _ (file : List ℕ) where
   unfolding appendIn appendedFrom appendRefusal
   append-means h =
       let n = appendRefusal (length file) d h in
-      after-file (λ v. appendIn file (v .numbers) (v .addresses) h .refusal) (appendRules (length file) d h) (omega arith) (λ n. refl)
-      (chosen (λ (x : AppendedFrom). x .refusal) n (acceptedFrom d addresses h) (refusedFrom n d addresses) refl refl)
+      after-file (λ v. appendIn file (v .numbers) h .refusal) (appendRules (length file) d h) (omega arith) (λ n. refl)
+      (chosen (λ (x : Appended). x .refusal) n (acceptedFrom d) (refusedFrom n) refl refl)
 
   -- ---- the calls on an entry
 

@@ -116,8 +116,8 @@ create-kept file settings f = rw (ne-eqb (creationRefusal (length file) settings
 
 module _ (file : List ℕ) (h : Handed) where
   -- an append, by the case of its file's validation
-  append-by : (v : Validated) (addresses : List RecordNumber) → (appendIn file v addresses h .refusal ≡ 0 → ⊥)
-      → (appendIn file v addresses h ≡ record { refusal = appendIn file v addresses h .refusal; number = record { 0 = 0 } })
+  append-by : (v : Validated) (addresses : List RecordNumber) → (appendIn file v h .refusal ≡ 0 → ⊥)
+      → (appendIn file v h ≡ record { refusal = appendIn file v h .refusal; number = record { 0 = 0 } })
       × (fileIn file v addresses h ≡ file)
   unfolding appendIn appendedFrom fileIn fileFrom
   append-by (Refused n) addresses f = (refl, refl)

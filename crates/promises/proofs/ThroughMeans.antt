@@ -11,7 +11,6 @@ use Rattle.descriptor.specs.FirstRecord.{numbersOf}
 use Rattle.descriptor.specs.Refusal.{Rule, refusalIn, Numbered}
 use Rattle.descriptor.specs.Rules.{fileRefusal}
 use Rattle.descriptor.proofs.Refusals.{refusal-append}
-use Rattle.descriptor.proofs.Answered.{answer-numbers}
 use Rattle.writer.specs.declared.appending.Appended.{Appended}
 use Rattle.storing.specs.Handed.{Handed}
 use Rattle.writer.specs.Rules.{appendRules}
@@ -21,13 +20,13 @@ use Rattle.batch.specs.declared.batching.Batched.{Batched}
 use Rattle.batch.specs.Batch.{Batch, entriesIn}
 use Rattle.batch.specs.Rules.{batchRules, batchRefusal}
 use Rattle.batch.specs.Answers.{answerInTurn, batchOf}
+use Rattle.batch.proofs.Appending.{validates-from}
 use Rattle.update.specs.Rules.{contentRules}
 use Rattle.update.specs.Answers.{Update, spaceOf, placeNamed, updateOf}
 use Rattle.held.specs.declared.answers.OpenFile.{OpenFile}
 use Rattle.held.specs.Rules.{heldRules, heldRefusal}
 use Rattle.held.proofs.Held.{held-true, true-shown}
 use Rattle.through.specs.Answers.{Outcome, appendThrough, batchThrough, updateThrough}
-use Rattle.through.proofs.Kept.{append-validates}
 use Rattle.promises.specs.Tables.{entryRows, sectionRows, Exactly, validateTests, updateTests, appendToTests, turnRows, batchToTests, updateToTests}
 use Rattle.promises.proofs.RefusalMeans.{numbered-joined, chosen-joined, exact-number, exactly, append-number, update-means}
 
@@ -45,9 +44,8 @@ turns-behind : (hs : List Handed) (n : ℕ) (file : List ℕ) → fileRefusal fi
 turns-behind [] n file z = refl
 turns-behind (h ∷ hs) n file z =
     let next = fileAfter file h in
-    let again : fileRefusal next ≡ 0 = shows next _ _ (append-validates file _ _ h (answer-numbers file z)) .admitted in
     chosen-joined (λ (x : Batched). x .refusal) (appendOf file h .refusal) _ _ (appendRules (length file) (numbersOf file) h) (turnRows next hs) (omega arith)
-    (append-behind file h z) (λ q. turns-behind hs (n + 1) next again) refl
+    (append-behind file h z) (λ q. turns-behind hs (n + 1) next (validates-from file h z)) refl
 
 -- their rows have none numbered 0
 rows-numbered : (hs : List Handed) (file : List ℕ) → Numbered (turnRows file hs)

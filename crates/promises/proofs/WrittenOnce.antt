@@ -20,7 +20,7 @@ use Rattle.layout.specs.EntryWords.{firstContent}
 use Rattle.placing.specs.Placing.{full, entryStart}
 use Rattle.fields.specs.FieldWrites.{countWrites}
 use Rattle.storing.specs.Handed.{Handed}
-use Rattle.storing.specs.Writing.{headOf, headWrites, tableWrites}
+use Rattle.storing.specs.Writing.{headFrom, headOf, headWrites, tableWrites}
 use Rattle.storing.specs.AsMade.{piecesWrites, indexWrites, restWrites}
 use Rattle.storing.specs.Bounds.{Accepted}
 use Rattle.storing.proofs.TableBytes.{length-identifierBytes, length-lengthBytes, length-addressBytes}
@@ -87,6 +87,7 @@ module _ (file : List ℕ) (h : Handed) (r : appendOf file h .refusal ≡ 0) whe
 
   -- each is of whole words
   whole : Whole (writesOf file h)
+  unfolding headFrom
   whole =
       let d = numbersOf file in
       let f = accepts .fitting in

@@ -1,37 +1,38 @@
 -- What the functions give that work from a record which is true of the file: the outcome of the call through it. Assumes nothing.
 use Prim.Native.Nat.{ℕ}
-use mathlib.Core.Path.{_≡_, refl, sym, ap, subst, _∙_}
+use mathlib.Core.Path.{_≡_, sym, ap, subst, _∙_}
 use mathlib.Core.List.{List}
 use lib.ListN.{length}
 use Rattle.geometry.specs.declared.units.RecordNumber.{RecordNumber}
 use Rattle.descriptor.specs.declared.numbers.DescriptorNumbers.{DescriptorNumbers}
 use Rattle.descriptor.specs.declared.validating.Validation.{Validation}
-use Rattle.descriptor.specs.Answers.{validationOf, Validates}
-use Rattle.descriptor.specs.FirstRecord.{addressesOf}
+use Rattle.descriptor.specs.Answers.{Validates}
+use Rattle.descriptor.specs.FirstRecord.{numbersOf, addressesOf}
+use Rattle.descriptor.specs.Rules.{fileRefusal}
 use Rattle.descriptor.specs.Bounds.{AdmittedIn, TotalsOf}
-use Rattle.descriptor.proofs.Answered.{told}
 use Rattle.handing.specs.declared.place.PartPlace.{PartPlace}
 use Rattle.handing.specs.Parts.{sectionPart, partIn}
 use Rattle.storing.specs.Handed.{Handed}
-use Rattle.writer.specs.declared.inner.AppendedFrom.{AppendedFrom}
-use Rattle.writer.specs.Answers.{appendedFrom, fileAfter, AppendsFrom}
-use Rattle.batch.specs.declared.inner.BatchedFrom.{BatchedFrom}
+use Rattle.writer.specs.declared.appending.Appended.{Appended}
+use Rattle.writer.specs.Answers.{appendedFrom, fileFrom, appendOf, fileAfter, AppendsFrom}
+use Rattle.written.proofs.ReadBack.{shows}
+use Rattle.batch.specs.declared.batching.Batched.{Batched}
 use Rattle.batch.specs.Batch.{Batch, entriesIn}
 use Rattle.batch.specs.Rules.{batchRefusal}
-use Rattle.batch.specs.Answers.{fileInTurn, batchedFrom, AppendsInTurn}
-use Rattle.batch.proofs.Appending.{file-from}
+use Rattle.batch.specs.Answers.{fileInTurn, AppendsInTurn}
+use Rattle.batch.proofs.Appending.{admitted-own, answer-from, file-from, kept-from}
 use Rattle.batch.proofs.Whole.{in-turn, file-in-turn}
 use Rattle.update.specs.Answers.{Update, updateAt, fileAt, placeNamed, UpdatesAt}
 use Rattle.update.specs.Bounds.{Writable}
 use Rattle.update.proofs.Places.{named-writable}
 use Rattle.updated.proofs.EntryAfter.{update-validates}
 use Rattle.held.specs.declared.answers.OpenFile.{OpenFile}
-use Rattle.held.specs.Record.{openFileWith, openFileIn, openFileOf, TrueOf}
+use Rattle.held.specs.Record.{openFileIn, openFileOf, TrueOf}
 use Rattle.held.specs.Rules.{heldRefusal}
 use Rattle.held.proofs.Held.{held-true, true-shown}
 use Rattle.through.specs.Answers.{Outcome, stays, leaving, appendThrough, batchThrough, updateThrough, Gives}
 use Rattle.through.specs.Bounds.{Grown}
-use Rattle.through.proofs.Kept.{append-answer, append-validates, append-growth, turns-validate, turns-growth, grown}
+use Rattle.through.proofs.Kept.{append-grows, turns-grow, grown}
 use Rattle.through.proofs.Outcomes.{record-then, append-done, batch-done, update-done}
 
 module _ {A : Type 0} {x : Outcome A} where
@@ -58,24 +59,24 @@ module _ (file : List ℕ) (held : OpenFile) (z : heldRefusal file held ≡ 0) w
   true-there = held-true file held z
 
   -- the file validates with its numbers and addresses
-  pub validates : Validates file d addresses
+  validates : Validates file d addresses
   validates = true-shown file held true-there .validates
 
-  -- which are admitted
-  pub admitted : AdmittedIn file d addresses
-  admitted =
-      let t = told file (validationOf file) d refl (ap (λ (v : Validation). v .numbers) validates) in
-      rw (ap (λ (v : Validation). v .addresses) validates) at (t .admitted)
+  -- it is not refused
+  pub passed : fileRefusal file ≡ 0
+  passed = shows file d addresses validates .admitted
 
-  -- the addresses are those that the file has
+  -- the numbers are those that it has
+  pub numbers-there : d ≡ numbersOf file
+  numbers-there = sym (shows file d addresses validates .numbers)
+
+  -- and so are the addresses
   addresses-there : addresses ≡ addressesOf file (d .nex)
-  addresses-there =
-      let t = told file (validationOf file) d refl (ap (λ (v : Validation). v .numbers) validates) in
-      ap (λ (v : Validation). v .addresses) (sym validates) ∙ t .addresses ∙ ap (λ (x : DescriptorNumbers). addressesOf file (x .nex)) (sym (t .numbers))
+  addresses-there = sym (shows file d addresses validates .table) ∙ ap (λ (x : DescriptorNumbers). addressesOf file (x .nex)) (sym numbers-there)
 
-  -- so the numbers are admitted with these
+  -- which are admitted
   pub admitted-there : AdmittedIn file d (addressesOf file (d .nex))
-  admitted-there = subst (AdmittedIn file d) addresses-there admitted
+  admitted-there = admitted-own file d passed numbers-there
 
   -- and the totals are those of the extensions in use
   pub totals-there : TotalsOf d (held .totals)
@@ -83,45 +84,41 @@ module _ (file : List ℕ) (held : OpenFile) (z : heldRefusal file held ≡ 0) w
 
   -- ---- an append from them
 
-  module _ (h : Handed) (r : AppendedFrom) (last : List ℕ) (m : AppendsFrom file d addresses h r last) where
-    -- its numbers are as the code asks
-    pub append-grown : Grown held (r .numbers)
-    append-grown =
-        rw (m .0)
-        (grown file (fileAfter file h) held (appendedFrom (length file) d addresses h .numbers) (appendedFrom (length file) d addresses h .addresses) true-there
-        (append-validates file d addresses h validates) (append-growth file d addresses h validates))
+  module _ (h : Handed) (r : Appended) (last : List ℕ) (m : AppendsFrom file d h r last) where
+    -- it answers as one to the file does
+    answered : r ≡ appendOf file h
+    answered = m .0 ∙ ap (λ (x : DescriptorNumbers). appendedFrom (length file) x h) numbers-there ∙ sym (answer-from file h passed)
 
-    -- it gives the append through the record
-    pub append-given : {after : OpenFile} → after ≡ openFileWith (r .numbers) (r .addresses)
-        → Gives (appendThrough file held h) (record { refusal = r .refusal; number = r .number }) after last
-    append-given k =
-        given-leaving (append-done file held z h)
-        (ap (λ (y : AppendedFrom). record { refusal = y .refusal; number = y .number }) (m .0) ∙ sym (append-answer file d addresses h validates))
-        (k ∙ ap (λ (y : AppendedFrom). openFileWith (y .numbers) (y .addresses)) (m .0) ∙ record-then (fileAfter file h) _ _ (append-validates file d addresses h validates))
-        (m .1 ∙ sym (file-from file d addresses h validates))
+    -- and leaves the same file
+    left-file : last ≡ fileAfter file h
+    left-file = m .1 ∙ ap (λ (x : DescriptorNumbers). fileFrom file x (addressesOf file (x .nex)) h) numbers-there ∙ sym (file-from file h passed)
+
+    -- which is as the code asks
+    pub append-grown : Grown last held
+    append-grown = rw left-file (grown file (fileAfter file h) held true-there (append-grows file h passed))
+
+    -- it gives the append through the record, with the record of that file
+    pub append-given : {after : OpenFile} → after ≡ openFileOf last .file → Gives (appendThrough file held h) r after last
+    append-given k = given-leaving (append-done file held z h) answered (k ∙ ap (λ (f : List ℕ). openFileOf f .file) left-file) left-file
+
+    -- refused, with the record as it was
+    pub append-undone : (r .refusal ≡ 0 → ⊥) → Gives (appendThrough file held h) r held last
+    append-undone some =
+        let same = left-file ∙ kept-from file h passed (λ q. some (ap (λ (x : Appended). x .refusal) answered ∙ q)) in
+        append-given (true-there .same ∙ ap (λ (f : List ℕ). openFileOf f .file) (sym same))
 
   -- ---- appends in turn from them
 
-  module _ (b : Batch) (counted : batchRefusal b ≡ 0) (r : BatchedFrom) (last : List ℕ) (m : AppendsInTurn file (entriesIn b) r last) where
-    abbrev after-turns : List ℕ
-    after-turns = fileInTurn file (entriesIn b)
+  module _ (b : Batch) (counted : batchRefusal b ≡ 0) (r : Batched) (last : List ℕ) (m : AppendsInTurn file (entriesIn b) r last) where
+    -- the file that they leave is as the code asks
+    pub batch-grown : Grown last held
+    batch-grown = rw (m .1) (grown file (fileInTurn file (entriesIn b)) held true-there (turns-grow (entriesIn b) file passed))
 
-    -- their numbers are as the code asks
-    pub batch-grown : Grown held (r .numbers)
-    batch-grown =
-        rw (m .0)
-        (grown file after-turns held (batchedFrom file (entriesIn b) .numbers) (batchedFrom file (entriesIn b) .addresses) true-there
-        (turns-validate file d addresses (entriesIn b) validates) (turns-growth file d addresses (entriesIn b) validates))
-
-    -- they give the batch through the record
-    pub batch-given : {after : OpenFile} → after ≡ openFileWith (r .numbers) (r .addresses)
-        → Gives (batchThrough file held b) (record { refusal = r .refusal; accepted = r .accepted }) after last
+    -- they give the batch through the record, with the record of that file
+    pub batch-given : {after : OpenFile} → after ≡ openFileOf last .file → Gives (batchThrough file held b) r after last
     batch-given k =
-        given-leaving (batch-done file held z b counted)
-        (ap (λ (y : BatchedFrom). record { refusal = y .refusal; accepted = y .accepted }) (m .0) ∙ sym (in-turn file b counted))
-        (k ∙ ap (λ (y : BatchedFrom). openFileWith (y .numbers) (y .addresses)) (m .0) ∙ record-then after-turns _ _ (turns-validate file d addresses (entriesIn b) validates)
-        ∙ ap (λ (f : List ℕ). openFileOf f .file) (sym (file-in-turn file b counted)))
-        (m .1 ∙ sym (file-in-turn file b counted))
+        let same = m .1 ∙ sym (file-in-turn file b counted) in
+        given-leaving (batch-done file held z b counted) (m .0 ∙ sym (in-turn file b counted)) (k ∙ ap (λ (f : List ℕ). openFileOf f .file) same) same
 
   -- ---- an update at the place that they give
 

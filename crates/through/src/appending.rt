@@ -39,11 +39,9 @@ pub fn append_through(
         };
     }
     let d = held.numbers;
-    let addresses = held.addresses;
     let totals = held.totals;
     let appended = append_from(
         d,
-        addresses,
         &totals,
         file,
         version,
@@ -53,15 +51,15 @@ pub fn append_through(
         sections,
         values,
     );
-    let number = appended.number;
-    let numbers = appended.numbers;
-    let areas = appended.addresses;
-    let after = kept_true(held, numbers, areas);
+    if appended.refusal != 0 {
+        return AppendedThrough {
+            held,
+            answer: appended,
+        };
+    }
+    let after = kept_true(file, held);
     AppendedThrough {
         held: after,
-        answer: Appended {
-            refusal: appended.refusal,
-            number,
-        },
+        answer: appended,
     }
 }

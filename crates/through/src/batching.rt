@@ -53,10 +53,8 @@ pub fn append_batch_through(
         return refused(held, refusal);
     }
     let d = held.numbers;
-    let addresses = held.addresses;
     let batched = append_in_turn(
         d,
-        addresses,
         file,
         versions,
         counts,
@@ -66,14 +64,9 @@ pub fn append_batch_through(
         sections,
         values,
     );
-    let numbers = batched.numbers;
-    let areas = batched.addresses;
-    let after = kept_true(held, numbers, areas);
+    let after = kept_true(file, held);
     BatchedThrough {
         held: after,
-        answer: Batched {
-            refusal: batched.refusal,
-            accepted: batched.accepted,
-        },
+        answer: batched,
     }
 }

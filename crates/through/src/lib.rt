@@ -1,7 +1,7 @@
 // Appending and updating through a record of the open file, which is passed by value.
 //
 // Each call compares the record with the file, for which it validates it once, and then works from the
-// numbers and addresses of the record. It answers the record as it is afterwards, beside what the call
+// numbers and totals of the record. It answers the record as it is afterwards, beside what the call
 // without a record answers.
 mod appending;
 mod batching;

@@ -3,11 +3,9 @@ use Prim.Native.Nat.{ℕ}
 use mathlib.Core.Path.{_≡_, sym, ap, _∙_}
 use borrow.Author.Needs.{needs}
 use Rattle.descriptor.specs.declared.validating.Validation.{Validation}
-use Rattle.descriptor.proofs.Answered.{refusal-told}
-use Rattle.batch.specs.declared.inner.BatchedFrom.{BatchedFrom}
+use Rattle.descriptor.proofs.Answered.{refusal-told, told}
 use Rattle.batch.specs.Batch.{Batch, laidIn, batchIn}
 use Rattle.batch.specs.Rules.{batchRefusal}
-use Rattle.batch.proofs.Appending.{validates-told}
 use Rattle.batch.proofs.Whole.{refused, none, file-refused, in-turn, file-in-turn}
 use Rattle.batch.proofs.batching.append_batch.Statement.{statement}
 use Rattle.batch.proofs.batching.append_batch.Tie as tie
@@ -45,13 +43,14 @@ returns-3 c =
 
 -- the file was validated on the way
 abbrev from-validate : tie.After-append-in-turn-arg → tie.After-validate
-from-validate c = c .before .before .before .before .before
+from-validate c = c .before .before .before .before
 
 append-in-turn-requires : tie.Need-append-in-turn-requires
 append-in-turn-requires c κs =
     let v = from-validate c in
     let e = v .before .before in
-    (validates-told (began (e .before .before) .args .file .now) (v .validate .result) _ (v .validate .ensures) (c .before .before .before .case .given .1), holds (e .before))
+    let t = told (began (e .before .before) .args .file .now) (v .validate .result) _ (v .validate .ensures) (c .before .before .case .given .1) in
+    (t .refusal, t .numbers, holds (e .before))
 
 returns-4 : tie.Need-returns-4
 returns-4 c =
@@ -60,7 +59,7 @@ returns-4 c =
     let s = began (e .before .before) in
     let file = s .args .file .now in
     let a = r .append-in-turn .ensures in
-    (ap (λ (x : BatchedFrom). record { refusal = x .refusal; accepted = x .accepted }) (a .0) ∙ sym (in-turn file (given s) (holds (e .before))), a .1 ∙ sym (file-in-turn file (given s) (holds (e .before))))
+    (a .0 ∙ sym (in-turn file (given s) (holds (e .before))), a .1 ∙ sym (file-in-turn file (given s) (holds (e .before))))
 
 pub append-batch-spec : {M : Type 1} → statement M
 append-batch-spec =

@@ -1,6 +1,6 @@
 -- `batch::inner::append_in_turn` meets its contract. The loop's invariant: what the batch does is what its entries from here on do to the file as it is, and
--- the numbers and addresses at hand are the file's. Assumes nothing.
-use mathlib.Core.Path.{_≡_, refl, _∙_}
+-- the numbers at hand are the file's. Assumes nothing.
+use mathlib.Core.Path.{_≡_, refl}
 use Prim.Native.Nat.{_-_}
 use native.Mathlib.Omega.{arith}
 use borrow.Author.Needs.{needs}
@@ -8,9 +8,9 @@ use denote.Ref.{now}
 use lib.ListN.{length}
 use Rattle.words.specs.Word.{integer4}
 use Rattle.storing.proofs.Lengths.{read-back}
-use Rattle.written.proofs.ReadBack.{shows}
 use Rattle.batch.specs.Batch.{Batch, laidIn, batchIn}
 use Rattle.batch.specs.Turn.{AppendsNext}
+use Rattle.batch.proofs.Appending.{admitted-own}
 use Rattle.batch.proofs.InTurn.{Before, before-first, counts, version, entry-reached, ended, before-next, all-accepted}
 use Rattle.batch.proofs.inner.append_in_turn.Statement.{statement}
 use Rattle.batch.proofs.inner.append_in_turn.Tie as tie
@@ -33,7 +33,7 @@ given c =
     batchIn (now (a .versions)) (now (a .counts)) (laidIn (now (a .index)) (now (a .ids)) (now (a .lengths)) (now (a .sections)) (now (a .values)))
 
 loop-holds : tie.Need-loop-holds Inv-loop μ-loop
-loop-holds c = (refl, before-first _ _ _ refl (c .begin .ensures) (began c .pre .0) (began c .pre .1))
+loop-holds c = (refl, before-first _ _ _ refl (c .begin .ensures) (began c .pre .0) (began c .pre .1) (began c .pre .2))
 
 -- the turn that a place is in
 abbrev turn : tie.After-row Inv-loop μ-loop → tie.In-loop Inv-loop μ-loop
@@ -43,7 +43,7 @@ append-next-requires : tie.Need-append-next-requires Inv-loop μ-loop
 append-next-requires c κs =
     let t = turn (c .before) in
     let i = t .before .loop .inv .1 in
-    (shows _ _ _ (i .shown) .bounds, entry-reached _ _ i (t .loop-test .taken))
+    (admitted-own _ _ (i .shown) (i .numbers), entry-reached _ _ i (t .loop-test .taken))
 
 -- what its append did
 appends : (c : tie.After-append-next Inv-loop μ-loop) → let t = turn (c .before .before) in let l = t .before .loop in let b = given (t .before) in
@@ -55,10 +55,9 @@ appends c =
 
 returns : tie.Need-returns Inv-loop μ-loop
 returns c =
-    let r = c .before .before .before .before .before in
+    let r = c .before .before .before .before in
     let t = turn (r .before .before) in
-    let e = ended _ _ (t .before .loop .inv .1) (t .loop-test .taken) _ _ (appends r) (c .before .if1 .taken) in
-    (c .ended .ensures ∙ e .0, e .1)
+    ended _ _ (t .before .loop .inv .1) (t .loop-test .taken) _ _ (appends r) (c .if1 .taken)
 
 -- the append behind which an entry was accepted
 abbrev behind : tie.Else1 Inv-loop μ-loop → tie.After-append-next Inv-loop μ-loop
@@ -77,9 +76,7 @@ loop-again c =
     (omega arith, before-next _ _ (t .before .loop .inv .1) (t .loop-test .taken) _ _ (appends r) (c .if1 .left))
 
 returns-2 : tie.Need-returns-2 Inv-loop μ-loop
-returns-2 c =
-    let e = all-accepted _ _ (c .before .before .loop .inv .1) (c .before .loop-test .left) in
-    (c .ended2 .ensures ∙ e .0, e .1)
+returns-2 c = all-accepted _ _ (c .before .loop .inv .1) (c .loop-test .left)
 
 pub append-in-turn-spec : {M : Type 1} → statement M
 append-in-turn-spec =
@@ -94,12 +91,10 @@ append-in-turn-spec =
     (λ c. search needs)
     (λ c. search needs)
     append-next-requires
-    (λ c κs. search needs)
     (λ c. search needs)
     returns
     add-accepted
     (λ c. omega arith)
     loop-again
-    (λ c κs. search needs)
     (λ c. search needs)
     returns-2)

@@ -1,4 +1,4 @@
--- `through::appending::append_through` meets its contract: refused by 27, or an append from the record's numbers and addresses. Assumes nothing.
+-- `through::appending::append_through` meets its contract: refused by 27, or an append from the record's numbers. Assumes nothing.
 use mathlib.Core.Path.{_≡_, sym, _∙_}
 use mir.Facts.{toZ-ofZ}
 use borrow.Author.Needs.{needs}
@@ -6,7 +6,7 @@ use Rattle.storing.specs.Handed.{Handed, handedIn}
 use Rattle.writer.specs.Answers.{AppendsFrom}
 use Rattle.held.specs.Rules.{heldRefusal}
 use Rattle.through.proofs.Outcomes.{append-refused}
-use Rattle.through.proofs.Given.{given-staying, admitted, totals-there, append-grown, append-given}
+use Rattle.through.proofs.Given.{given-staying, admitted-there, totals-there, append-grown, append-given, append-undone}
 use Rattle.through.proofs.appending.append_through.Statement.{statement}
 use Rattle.through.proofs.appending.append_through.Tie as tie
 
@@ -24,7 +24,7 @@ returns c =
 
 -- where 27 is not given
 abbrev passed : tie.After-append-from-arg → tie.Else1
-passed c = let p : tie.After-totals2 = c .before in p .before .before .before .before
+passed c = let p : tie.After-totals2 = c .before in p .before .before .before
 
 true-there : (c : tie.Else1) → let s = began (c .before) in heldRefusal (s .args .file .now) (s .args .held) ≡ 0
 true-there c = sym (c .before .held-refusal .ensures) ∙ c .if1 .left
@@ -33,30 +33,38 @@ append-from-requires : tie.Need-append-from-requires
 append-from-requires c κs =
     let p = passed c in
     let s = began (p .before) in
-    (admitted (s .args .file .now) (s .args .held) (true-there p) .admitted, totals-there (s .args .file .now) (s .args .held) (true-there p))
+    (admitted-there (s .args .file .now) (s .args .held) (true-there p), totals-there (s .args .file .now) (s .args .held) (true-there p))
 
 -- what the append from the record did
 appends : (c : tie.After-append-from) → let s = began (passed (c .before) .before) in
-    AppendsFrom (s .args .file .now) (s .args .held .numbers) (s .args .held .addresses) (over s) (c .append-from .result) (c .append-from .last .1 .1 .1 .0)
+    AppendsFrom (s .args .file .now) (s .args .held .numbers) (over s) (c .append-from .result) (c .append-from .last .1 .1 .0)
 appends c = rw (toZ-ofZ (began (passed (c .before) .before) .fits .version)) at (c .append-from .ensures)
 
-abbrev appended : tie.After-areas → tie.After-append-from
-appended c = c .before .before .before .before .before
-
-kept-true-requires : tie.Need-kept-true-requires
-kept-true-requires c κs =
-    let r = appended c in
-    let p = passed (r .before) in
-    let s = began (p .before) in
-    append-grown (s .args .file .now) (s .args .held) (true-there p) (over s) _ _ (appends r)
+abbrev appended : tie.After-struct-known → tie.After-append-from
+appended c = c .before .before .before
 
 returns-2 : tie.Need-returns-2
 returns-2 c =
     let r = appended (c .before) in
     let p = passed (r .before) in
     let s = began (p .before) in
+    append-undone (s .args .file .now) (s .args .held) (true-there p) (over s) _ _ (appends r) (c .if2 .taken)
+
+kept-true-requires : tie.Need-kept-true-requires
+kept-true-requires c κs =
+    let r = appended (c .before .before) in
+    let p = passed (r .before) in
+    let s = began (p .before) in
+    append-grown (s .args .file .now) (s .args .held) (true-there p) (over s) _ _ (appends r)
+
+returns-3 : tie.Need-returns-3
+returns-3 c =
+    let r = appended (c .before .before .before) in
+    let p = passed (r .before) in
+    let s = began (p .before) in
     append-given (s .args .file .now) (s .args .held) (true-there p) (over s) _ _ (appends r) (c .kept-true .ensures)
 
 pub append-through-spec : {M : Type 1} → statement M
 append-through-spec =
-    tie.close (tie.spec (λ c κs. search needs) (λ c. search needs) returns (λ c. search needs) append-from-requires kept-true-requires (λ c. search needs) returns-2)
+    tie.close
+    (tie.spec (λ c κs. search needs) (λ c. search needs) returns (λ c. search needs) append-from-requires (λ c. search needs) returns-2 kept-true-requires (λ c. search needs) returns-3)

@@ -1,4 +1,4 @@
--- `through::batching::append_batch_through` meets its contract: refused by 26 or 27, or the appends in turn from the record's numbers and addresses. Assumes nothing.
+-- `through::batching::append_batch_through` meets its contract: refused by 26 or 27, or the appends in turn from the record's numbers. Assumes nothing.
 use mathlib.Core.Path.{_≡_, sym, ap, _∙_}
 use borrow.Author.Needs.{needs}
 use Rattle.batch.specs.Batch.{Batch, laidIn, batchIn}
@@ -6,7 +6,7 @@ use Rattle.batch.specs.Rules.{batchRefusal}
 use Rattle.held.specs.Rules.{heldRefusal}
 use Rattle.through.specs.declared.batching.BatchedThrough.{BatchedThrough}
 use Rattle.through.proofs.Outcomes.{batch-refused, batch-counted}
-use Rattle.through.proofs.Given.{given-staying, validates, batch-grown, batch-given}
+use Rattle.through.proofs.Given.{given-staying, passed, numbers-there, batch-grown, batch-given}
 use Rattle.through.proofs.batching.append_batch_through.Statement.{statement}
 use Rattle.through.proofs.batching.append_batch_through.Tie as tie
 
@@ -42,26 +42,26 @@ returns-2 c =
     (ap (λ (x : BatchedThrough). x .answer) r ∙ e .0, ap (λ (x : BatchedThrough). x .held) r ∙ e .1, e .2)
 
 -- and neither is 27
-abbrev passed : tie.After-append-in-turn-arg → tie.Else2
-passed c = c .before .before .before
+abbrev past-27 : tie.After-append-in-turn-arg → tie.Else2
+past-27 c = c .before .before
 
 true-there : (c : tie.Else2) → let s = began (past-26 (c .before) .before) in heldRefusal (s .args .file .now) (s .args .held) ≡ 0
 true-there c = sym (c .before .held-refusal .ensures) ∙ c .if2 .left
 
 append-in-turn-requires : tie.Need-append-in-turn-requires
 append-in-turn-requires c κs =
-    let p = passed c in
+    let p = past-27 c in
     let q = past-26 (p .before) in
     let s = began (q .before) in
-    (validates (s .args .file .now) (s .args .held) (true-there p), counted q)
+    (passed (s .args .file .now) (s .args .held) (true-there p), numbers-there (s .args .file .now) (s .args .held) (true-there p), counted q)
 
-abbrev batched : tie.After-areas → tie.After-append-in-turn
-batched c = c .before .before .before .before
+abbrev batched : tie.After-kept-true-arg → tie.After-append-in-turn
+batched c = c .before .before .before
 
 kept-true-requires : tie.Need-kept-true-requires
 kept-true-requires c κs =
     let r = batched c in
-    let p = passed (r .before) in
+    let p = past-27 (r .before) in
     let q = past-26 (p .before) in
     let s = began (q .before) in
     batch-grown (s .args .file .now) (s .args .held) (true-there p) (over s) (counted q) _ _ (r .append-in-turn .ensures)
@@ -69,7 +69,7 @@ kept-true-requires c κs =
 returns-3 : tie.Need-returns-3
 returns-3 c =
     let r = batched (c .before) in
-    let p = passed (r .before) in
+    let p = past-27 (r .before) in
     let q = past-26 (p .before) in
     let s = began (q .before) in
     batch-given (s .args .file .now) (s .args .held) (true-there p) (over s) (counted q) _ _ (r .append-in-turn .ensures) (c .kept-true .ensures)
