@@ -1,8 +1,8 @@
 // Validating a file's descriptor.
 use super::inner::addresses_of;
 use super::inner::admitting::file_refusal;
+use super::inner::reading::numbers_of;
 use super::numbers::DescriptorNumbers;
-use super::numbers::numbers_of;
 use geometry::EntryNumber;
 use geometry::RecordNumber;
 use geometry::WordNumber;

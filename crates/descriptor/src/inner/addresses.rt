@@ -1,5 +1,5 @@
 // The addresses of a file's index areas.
-use crate::numbers::field8_at;
+use crate::inner::reading::field8_at;
 use geometry::ExtensionNumber;
 use geometry::RecordNumber;
 use layout::first_record::aex_word;

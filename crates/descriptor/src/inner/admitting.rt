@@ -1,6 +1,6 @@
 // Validating a file, with what the one walk over its extensions finds.
 use super::areas::areas_hold;
-use crate::numbers::numbers_of;
+use crate::inner::reading::numbers_of;
 use crate::rules::count_refusal;
 use crate::rules::limit_refusal;
 use crate::validating::Validated;

@@ -1,7 +1,7 @@
 // Where the index areas of a file start and end, and rule 11.
 use super::derived::free_position;
+use crate::inner::reading::field8_at;
 use crate::numbers::DescriptorNumbers;
-use crate::numbers::field8_at;
 use geometry::ExtensionNumber;
 use geometry::RecordNumber;
 use geometry::WordNumber;

@@ -1,8 +1,8 @@
--- `descriptor::numbers::field8_at` meets its contract. Assumes nothing.
+-- `descriptor::inner::reading::field8_at` meets its contract. Assumes nothing.
 use Rattle.descriptor.specs.FirstRecord.{field8}
 use borrow.Author.Needs.{needs}
-use Rattle.descriptor.proofs.numbers.field8_at.Statement.{statement}
-use Rattle.descriptor.proofs.numbers.field8_at.Tie as tie
+use Rattle.descriptor.proofs.inner.reading.field8_at.Statement.{statement}
+use Rattle.descriptor.proofs.inner.reading.field8_at.Tie as tie
 
 pub field8-at-spec : {M : Type 1} → statement M
 unfolding field8

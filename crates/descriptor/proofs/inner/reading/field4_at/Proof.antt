@@ -1,8 +1,8 @@
--- `descriptor::numbers::field4_at` meets its contract. Assumes nothing.
+-- `descriptor::inner::reading::field4_at` meets its contract. Assumes nothing.
 use Rattle.descriptor.specs.FirstRecord.{field4}
 use borrow.Author.Needs.{needs}
-use Rattle.descriptor.proofs.numbers.field4_at.Statement.{statement}
-use Rattle.descriptor.proofs.numbers.field4_at.Tie as tie
+use Rattle.descriptor.proofs.inner.reading.field4_at.Statement.{statement}
+use Rattle.descriptor.proofs.inner.reading.field4_at.Tie as tie
 
 pub field4-at-spec : {M : Type 1} → statement M
 unfolding field4
