@@ -95,9 +95,10 @@ pub(crate) fn append_next(
         sections,
         values,
     );
+    let after = numbers_of(file);
     Turn {
         refusal: appended.refusal,
-        numbers: numbers_of(file),
+        numbers: after,
         at: next,
     }
 }

@@ -12,9 +12,9 @@ pub(crate) fn kept_true(file: &[u8], held: OpenFile) -> OpenFile
     requires { ⌜ Grown (now file) held ⌝ }
     ensures { λ r. ⌜ Answers (openFileOf (now (file .entry)) .file) r ⌝ }
 {
+    let before = held.numbers;
     let numbers = numbers_of(file);
     let addresses = addresses_of(numbers.order, file, numbers.nex);
-    let before = held.numbers;
     if numbers.nex != before.nex {
         return open_file_with(numbers, addresses);
     }

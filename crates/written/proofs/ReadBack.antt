@@ -1,4 +1,4 @@
--- An append to a file that validates, accepted: what was written, and that validating it gives the numbers and addresses that the append answers. Assumes nothing.
+-- An append to a file that validates, accepted: what was written, and that validating it gives the numbers and addresses after it. Assumes nothing.
 use Prim.Native.Nat.{ℕ}
 use mathlib.Core.Path.{_≡_, refl, sym, ap, _∙_}
 use mathlib.Core.List.{List}

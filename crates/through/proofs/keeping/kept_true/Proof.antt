@@ -15,10 +15,10 @@ use Rattle.through.proofs.keeping.kept_true.Tie as tie
 
 -- where the function began, and what was read
 abbrev began : tie.After-numbers-of → tie.Start
-began c = c .before .before
+began c = c .before .before .before
 
 abbrev read : tie.After-struct-known2 → tie.After-addresses-of
-read c = c .before .before .before
+read c = c .before .before
 
 addresses-of-requires : tie.Need-addresses-of-requires
 addresses-of-requires c κs =
@@ -58,7 +58,7 @@ pub kept-true-spec : {M : Type 1} → statement M
 kept-true-spec =
     tie.close
     (tie.spec
-    (λ c κs. file-passed _ (c .before .pre .passed) .long)
+    (λ c κs. file-passed _ (c .before .before .pre .passed) .long)
     addresses-of-requires
     open-file-with-requires
     returns
