@@ -12,7 +12,7 @@ use Rattle.descriptor.specs.FirstRecord.{numbersOf, addressesOf}
 use Rattle.descriptor.specs.Rules.{fileRefusal}
 use Rattle.descriptor.proofs.Refusals.{all-hold}
 use Rattle.storing.specs.Handed.{Handed}
-use Rattle.writer.specs.declared.appending.Appended.{Appended}
+use Rattle.writer.specs.declared.answers.Appended.{Appended}
 use Rattle.writer.specs.Answers.{appendedFrom, fileFrom, appendOf, fileAfter}
 use Rattle.batch.specs.declared.cursor.Cursor.{Cursor}
 use Rattle.batch.specs.declared.turn.Turn.{Turn}

@@ -6,7 +6,7 @@ use lib.Dec.{eqb}
 use Rattle.outcome.specs.Outcome.{AnswersAndLeaves}
 use Rattle.storing.specs.Handed.{Handed}
 use Rattle.writer.specs.Answers.{appendOf, fileAfter}
-use Rattle.batch.specs.declared.batching.Batched.{Batched}
+use Rattle.batch.specs.declared.answers.Batched.{Batched}
 use Rattle.batch.specs.Batch.{Batch, entriesIn}
 use Rattle.batch.specs.Rules.{batchRefusal}
 

@@ -1,4 +1,5 @@
 // Appending a batch to a file.
+use super::answers::Batched;
 use super::inner::append_in_turn;
 use super::rules::batch_refusal;
 use descriptor::Validated;
@@ -6,13 +7,6 @@ use descriptor::refusal_of;
 use descriptor::validate;
 ghost use Rattle.batch.specs.Batch.{laid, batch};
 ghost use Rattle.batch.specs.Answers.{AppendsBatch};
-
-// The answer of `append_batch`: the refusal, 0 when all entries were accepted, and how many were.
-#[repr(C)]
-pub struct Batched {
-    pub refusal: u32,
-    pub accepted: u64,
-}
 
 // Appends entries in turn, of which each kind is laid end to end with a row of counts for each entry:
 // index bytes, identifiers, lengths, section bytes, data bytes. The first refusal ends it, and the

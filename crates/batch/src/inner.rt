@@ -1,5 +1,5 @@
 // Appending the entries of a batch in turn to a file whose numbers are at hand, as after validating it.
-use super::batching::Batched;
+use super::answers::Batched;
 use super::cursor::begin;
 use super::turn::Turn;
 use super::turn::append_next;

@@ -4,12 +4,13 @@
 // and each append works from the numbers that the one before it left in the file. Its entries are taken
 // where they lie in the lent arrays: nothing is copied but into the file. The functions of `inner`
 // are for the crates above, which have validated before they call.
+mod answers;
 mod batching;
 mod cursor;
 pub mod inner;
 mod rules;
 mod turn;
 
-pub use batching::Batched;
+pub use answers::Batched;
 pub use batching::append_batch;
 pub use rules::batch_refusal;

@@ -27,11 +27,6 @@ module _ (g : Growth) (n : ℕ) where
   fit-reach zero e = omega (arith, eqb-true n 0 (rw fit-none at e), total-none g)
   fit-reach (suc k) e = leb-true n (totalOf g (suc k)) (and-eq-true-iff (leb n (totalOf g (suc k))) _ .0 (rw (fit-some (suc k) (omega arith)) at e) .0)
 
-  -- where there are entries, an extension is in use
-  pub fit-used : (k : ℕ) → entriesFit g k n ≡ true → 1 ≤ n → 1 ≤ k
-  fit-used zero e h = absurd (omega (arith, fit-reach zero e, total-none g))
-  fit-used (suc k) e h = omega arith
-
   -- and one extension fewer would not
   pub fit-full : (k : ℕ) → 1 ≤ k → entriesFit g k n ≡ true → totalOf g (k - 1) < n
   fit-full k h e = ltb-true (totalOf g (k - 1)) n (and-eq-true-iff (leb n (totalOf g k)) _ .0 (rw (fit-some k h) at e) .1)

@@ -10,7 +10,7 @@ use lib.ListN.{length, take, drop, length-drop}
 use Rattle.outcome.proofs.Either.{either}
 use Rattle.storing.specs.Handed.{Handed}
 use Rattle.writer.specs.Answers.{appendOf, fileAfter}
-use Rattle.batch.specs.declared.batching.Batched.{Batched}
+use Rattle.batch.specs.declared.answers.Batched.{Batched}
 use Rattle.batch.specs.Batch.{Batch, entriesIn}
 use Rattle.batch.specs.Rules.{batchRefusal}
 use Rattle.batch.specs.Answers.{answerInTurn, fileInTurn, batchOf, fileAfterBatch}

@@ -9,11 +9,11 @@ use Rattle.descriptor.specs.declared.numbers.Settings.{Settings}
 use Rattle.descriptor.specs.declared.numbers.DescriptorNumbers.{DescriptorNumbers}
 use Rattle.handing.specs.declared.place.PartPlace.{PartPlace}
 use Rattle.handing.specs.Parts.{IsPart}
-use Rattle.writer.specs.declared.appending.Appended.{Appended}
+use Rattle.writer.specs.declared.answers.Appended.{Appended}
 use Rattle.writer.specs.Creation.{Creates}
 use Rattle.storing.specs.Handed.{Handed}
 use Rattle.writer.specs.Answers.{Appends, AppendsFrom}
-use Rattle.batch.specs.declared.batching.Batched.{Batched}
+use Rattle.batch.specs.declared.answers.Batched.{Batched}
 use Rattle.batch.specs.Batch.{Batch}
 use Rattle.batch.specs.Answers.{AppendsInTurn, AppendsBatch}
 use Rattle.update.specs.Answers.{Update, UpdatesAt, Updates}

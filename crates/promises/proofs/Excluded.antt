@@ -22,11 +22,11 @@ use Rattle.descriptor.specs.Answers.{validationOf}
 use Rattle.descriptor.proofs.Refusals.{refusal-none, hold-split}
 use Rattle.entry.specs.declared.answers.Opened.{Opened}
 use Rattle.entry.specs.Answers.{openOf, openCase}
-use Rattle.writer.specs.declared.appending.Appended.{Appended}
+use Rattle.writer.specs.declared.answers.Appended.{Appended}
 use Rattle.writer.specs.Creation.{Creates}
 use Rattle.storing.specs.Handed.{Handed, Integers}
 use Rattle.writer.specs.Answers.{Appends}
-use Rattle.batch.specs.declared.batching.Batched.{Batched}
+use Rattle.batch.specs.declared.answers.Batched.{Batched}
 use Rattle.batch.specs.Batch.{Batch, IntegersIn, entriesIn}
 use Rattle.batch.specs.Rules.{batchRules, batchRefusal}
 use Rattle.batch.specs.Answers.{AppendsBatch}

@@ -20,7 +20,7 @@ use Rattle.descriptor.specs.Rules.{fileRefusal}
 use Rattle.descriptor.proofs.Answered.{answer-numbers}
 use Rattle.placing.specs.Placing.{full, newArea, afterNewArea, entryStart, nexAfter, numbersAfter, addressesAfter}
 use Rattle.storing.specs.Handed.{Handed, nwordIn}
-use Rattle.writer.specs.declared.appending.Appended.{Appended}
+use Rattle.writer.specs.declared.answers.Appended.{Appended}
 use Rattle.writer.specs.Rules.{appendRefusal}
 use Rattle.writer.specs.Answers.{appendedFrom, appendIn, appendOf, fileAfter}
 use Rattle.writer.specs.Creation.{creationRefusal, createdFile}

@@ -11,12 +11,12 @@ use Rattle.descriptor.specs.FirstRecord.{numbersOf}
 use Rattle.descriptor.specs.Refusal.{Rule, refusalIn, Numbered}
 use Rattle.descriptor.specs.Rules.{fileRefusal}
 use Rattle.descriptor.proofs.Refusals.{refusal-append}
-use Rattle.writer.specs.declared.appending.Appended.{Appended}
+use Rattle.writer.specs.declared.answers.Appended.{Appended}
 use Rattle.storing.specs.Handed.{Handed}
 use Rattle.writer.specs.Rules.{appendRules}
 use Rattle.writer.specs.Answers.{appendOf, fileAfter}
 use Rattle.written.proofs.ReadBack.{shows}
-use Rattle.batch.specs.declared.batching.Batched.{Batched}
+use Rattle.batch.specs.declared.answers.Batched.{Batched}
 use Rattle.batch.specs.Batch.{Batch, entriesIn}
 use Rattle.batch.specs.Rules.{batchRules, batchRefusal}
 use Rattle.batch.specs.Answers.{answerInTurn, batchOf}

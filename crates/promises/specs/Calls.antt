@@ -9,10 +9,10 @@ use lib.ListN.{length, take, drop}
 use Rattle.image.specs.Image.{splice}
 use Rattle.geometry.specs.Units.{offsetOf}
 use Rattle.pieces.specs.Tables.{sameInteger}
-use Rattle.writer.specs.declared.appending.Appended.{Appended}
+use Rattle.writer.specs.declared.answers.Appended.{Appended}
 use Rattle.storing.specs.Handed.{Handed, Integers, wordsOf}
 use Rattle.writer.specs.Answers.{appendOf, fileAfter}
-use Rattle.batch.specs.declared.batching.Batched.{Batched}
+use Rattle.batch.specs.declared.answers.Batched.{Batched}
 use Rattle.batch.specs.Batch.{Batch, IntegersIn, entriesIn}
 use Rattle.batch.specs.Answers.{batchOf, fileAfterBatch}
 use Rattle.update.specs.Answers.{Update, spaceOf, padded, placeNamed, updateOf, fileAfterUpdate}

@@ -18,7 +18,7 @@ use Rattle.handing.specs.Parts.{sectionWordsOf, dataWordsOf, bytesOf, noPart}
 use Rattle.storing.specs.Handed.{Handed, handedIn}
 use Rattle.writer.specs.Creation.{creationRefusal, createdFile}
 use Rattle.writer.specs.Answers.{appendOf, fileAfter}
-use Rattle.batch.specs.declared.batching.Batched.{Batched}
+use Rattle.batch.specs.declared.answers.Batched.{Batched}
 use Rattle.batch.specs.Batch.{Batch, laidIn, batchIn, entriesIn}
 use Rattle.batch.specs.Answers.{batchOf, fileAfterBatch}
 use Rattle.update.specs.Answers.{Update, updateIn, updateOf, fileAfterUpdate}

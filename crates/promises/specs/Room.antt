@@ -16,10 +16,10 @@ use Rattle.descriptor.specs.FirstRecord.{aexOf, mexOf, growthIn, freeOf, number
 use Rattle.descriptor.specs.Rules.{fileRefusal}
 use Rattle.descriptor.specs.Answers.{validationOf}
 use Rattle.storing.specs.Handed.{Handed, Integers, nwordIn}
-use Rattle.writer.specs.declared.appending.Appended.{Appended}
+use Rattle.writer.specs.declared.answers.Appended.{Appended}
 use Rattle.writer.specs.Rules.{handedRefusal}
 use Rattle.writer.specs.Answers.{appendOf, fileAfter}
-use Rattle.batch.specs.declared.batching.Batched.{Batched}
+use Rattle.batch.specs.declared.answers.Batched.{Batched}
 use Rattle.batch.specs.Batch.{Batch, IntegersIn, entriesIn}
 use Rattle.through.specs.Answers.{noAppend}
 use Rattle.promises.specs.Contents.{numbersIn, openedIn, startIn}

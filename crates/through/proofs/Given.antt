@@ -13,10 +13,10 @@ use Rattle.descriptor.specs.Bounds.{AdmittedIn, TotalsOf}
 use Rattle.handing.specs.declared.place.PartPlace.{PartPlace}
 use Rattle.handing.specs.Parts.{sectionPart, partIn}
 use Rattle.storing.specs.Handed.{Handed}
-use Rattle.writer.specs.declared.appending.Appended.{Appended}
+use Rattle.writer.specs.declared.answers.Appended.{Appended}
 use Rattle.writer.specs.Answers.{appendedFrom, fileFrom, appendOf, fileAfter, AppendsFrom}
 use Rattle.written.proofs.ReadBack.{shows}
-use Rattle.batch.specs.declared.batching.Batched.{Batched}
+use Rattle.batch.specs.declared.answers.Batched.{Batched}
 use Rattle.batch.specs.Batch.{Batch, entriesIn}
 use Rattle.batch.specs.Rules.{batchRefusal}
 use Rattle.batch.specs.Answers.{fileInTurn, AppendsInTurn}

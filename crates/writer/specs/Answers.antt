@@ -11,7 +11,7 @@ use Rattle.descriptor.specs.declared.validating.Validated.{Validated}
 use Rattle.descriptor.specs.declared.validating.Validated.the-variants.{Numbers, Refused}
 use Rattle.descriptor.specs.FirstRecord.{addressesOf}
 use Rattle.descriptor.specs.Answers.{validationOf}
-use Rattle.writer.specs.declared.appending.Appended.{Appended}
+use Rattle.writer.specs.declared.answers.Appended.{Appended}
 use Rattle.storing.specs.Handed.{Handed}
 use Rattle.writer.specs.Rules.{appendRefusal}
 use Rattle.storing.specs.Writing.{appended}

@@ -1,4 +1,5 @@
 // Appending an entry to a file.
+use super::answers::Appended;
 use super::inner::append_from;
 use descriptor::Validated;
 use descriptor::inner::admit;
@@ -6,13 +7,6 @@ use descriptor::refusal_of;
 use geometry::EntryNumber;
 ghost use Rattle.storing.specs.Handed.{handed};
 ghost use Rattle.writer.specs.Answers.{Appends};
-
-// The answer of `append`: the refusal, 0 when accepted, and the new entry's number, 0 when refused.
-#[repr(C)]
-pub struct Appended {
-    pub refusal: u32,
-    pub number: EntryNumber,
-}
 
 // Appends an entry: its version, the application's index words, its sections by identifiers, lengths
 // and bytes one after another, and its data. Refuses by the first rule of 1 to 11, 29 and 21 to 24

@@ -1,5 +1,5 @@
 // Appending to a file whose numbers are at hand, as after validating it.
-use super::appending::Appended;
+use super::answers::Appended;
 use super::rules::handed_refusal;
 use descriptor::DescriptorNumbers;
 use geometry::EntryNumber;
