@@ -52,8 +52,8 @@ use Rattle.held.proofs.answers.OpenFile as T
 use Rattle.held.proofs.answers.OpenFile.Laws as T′
 use Rattle.through.proofs.batching.BatchedThrough as P
 use Rattle.through.proofs.batching.BatchedThrough.Laws as P′
-use Rattle.batch.proofs.batching.Batched as S-Batched
-use Rattle.batch.proofs.batching.Batched.Laws as S-Batched′
+use Rattle.batch.proofs.answers.Batched as S-Batched
+use Rattle.batch.proofs.answers.Batched.Laws as S-Batched′
 use Rattle.through.proofs.append_batch_through as by-value
 use Rattle.through.proofs.append_batch_through.Symbol as by-value-def
 use Rattle.through.proofs.append_batch_through.Symbol.{name as #through·append-batch-through}

@@ -52,8 +52,8 @@ use Rattle.held.proofs.answers.OpenFile as T
 use Rattle.held.proofs.answers.OpenFile.Laws as T′
 use Rattle.through.proofs.appending.AppendedThrough as P
 use Rattle.through.proofs.appending.AppendedThrough.Laws as P′
-use Rattle.writer.proofs.appending.Appended as S-Appended
-use Rattle.writer.proofs.appending.Appended.Laws as S-Appended′
+use Rattle.writer.proofs.answers.Appended as S-Appended
+use Rattle.writer.proofs.answers.Appended.Laws as S-Appended′
 use Rattle.through.proofs.append_through as by-value
 use Rattle.through.proofs.append_through.Symbol as by-value-def
 use Rattle.through.proofs.append_through.Symbol.{name as #through·append-through}
