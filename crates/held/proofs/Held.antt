@@ -105,9 +105,3 @@ true-shown file held t =
     let same = t .same ∙ ap (λ (x : OpenFileAnswer). x .file) (validated-record file _ _ v) in
     rw same (record { validates = v; totals = refl }))
     (λ q. absurd (eqb-false n 0 q (rw (answer-refused file n refl q) at (t .admitted))))
-
--- and the other way round: the record of the numbers and addresses that a file validates with is true of it
-pub validated-true : (file : List ℕ) (d : DescriptorNumbers) (addresses : List RecordNumber) → Validates file d addresses → TrueOf file (openFileWith d addresses)
-validated-true file d addresses v =
-    let e = validated-record file d addresses v in
-    record { admitted = ap (λ (x : OpenFileAnswer). x .refusal) e; same = sym (ap (λ (x : OpenFileAnswer). x .file) e) }
