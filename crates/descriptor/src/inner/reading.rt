@@ -30,12 +30,11 @@ pub(crate) fn field8_at(order: ByteOrder, file: &[u8], word: WordNumber) -> u64
     words::u64_at(order, file, first_record_offset(word))
 }
 
-// The numbers as stored in a file.
-pub fn numbers_of(file: &[u8]) -> DescriptorNumbers
-    requires { ⌜ 64 ≤ length (now file) ⌝ }
+// The numbers as stored in a file, read in the order that its code says.
+fn numbers_in(order: ByteOrder, file: &[u8]) -> DescriptorNumbers
+    requires { ⌜ (order ≡ byteOrderOf (now file)) × (64 ≤ length (now file)) ⌝ }
     ensures { λ r. ⌜ Answers (numbersOf (now (file .entry))) r ⌝ }
 {
-    let order = byte_order_of(file);
     DescriptorNumbers {
         order,
         reclen: field4_at(order, file, first_record::RECLEN),
@@ -50,4 +49,16 @@ pub fn numbers_of(file: &[u8]) -> DescriptorNumbers
         nex: field4_at(order, file, first_record::NEX),
         gex: field4_at(order, file, first_record::GEX),
     }
+}
+
+// The numbers as stored in a file. The order is asked once, so that those of a little-endian file are read as they stand.
+pub fn numbers_of(file: &[u8]) -> DescriptorNumbers
+    requires { ⌜ 64 ≤ length (now file) ⌝ }
+    ensures { λ r. ⌜ Answers (numbersOf (now (file .entry))) r ⌝ }
+{
+    let order = byte_order_of(file);
+    if order.0 == 0 {
+        return numbers_in(ByteOrder(0), file);
+    }
+    numbers_in(order, file)
 }

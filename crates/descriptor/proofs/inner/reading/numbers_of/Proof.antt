@@ -1,29 +1,21 @@
--- `descriptor::inner::reading::numbers_of` meets its contract. Assumes nothing.
-use Rattle.descriptor.specs.FirstRecord.{numbersOf}
+-- `descriptor::inner::reading::numbers_of` meets its contract: the order that is handed on is the file's. Assumes nothing.
+use Prim.Native.Nat.{ℕ}
+use mathlib.Core.Path.{sym, ap, _∙_}
 use borrow.Author.Needs.{needs}
+use Rattle.words.specs.declared.byte_order.ByteOrder.{ByteOrder}
 use Rattle.descriptor.proofs.inner.reading.numbers_of.Statement.{statement}
 use Rattle.descriptor.proofs.inner.reading.numbers_of.Tie as tie
 
+-- the order of this number
+abbrev order-of : ℕ → ByteOrder
+order-of n = record { 0 = n }
+
 pub numbers-of-spec : {M : Type 1} → statement M
-unfolding numbersOf
 numbers-of-spec =
     tie.close
     (tie.spec
     (λ c κs. search needs)
+    (λ c κs. (ap order-of (sym (c .if1 .taken)) ∙ c .before .before .byte-order-of .ensures, c .before .before .before .before .pre))
+    (λ c. c .numbers-in .ensures)
     (λ c κs. search needs)
-    (λ c κs. search needs)
-    (λ c κs. search needs)
-    (λ c κs. search needs)
-    (λ c κs. search needs)
-    (λ c κs. search needs)
-    (λ c κs. search needs)
-    (λ c κs. search needs)
-    (λ c κs. search needs)
-    (λ c κs. search needs)
-    (λ c κs. search needs)
-    (λ c.
-    let lex1 = c .before .before in
-    let nextrec = lex1 .before .before in
-    let flags = nextrec .before .before in
-    let vind = flags .before .before in
-    rw (c .field4-at9 .ensures, c .before .field4-at8 .ensures, lex1 .field4-at7 .ensures, lex1 .before .field4-at6 .ensures, nextrec .field8-at2 .ensures, nextrec .before .field8-at .ensures, flags .field4-at5 .ensures, flags .before .field4-at4 .ensures, vind .field4-at3 .ensures, vind .before .field4-at2 .ensures, vind .before .before .field4-at .ensures, vind .before .before .before .byte-order-of .ensures)))
+    (λ c. c .numbers-in2 .ensures))
