@@ -11,11 +11,15 @@ use pieces::identifier_at;
 use pieces::section_at;
 use words::ByteOrder;
 ghost use mathlib.Core.Path.{_≡_};
+ghost use Prim.Native.Nat.{_≤_};
 ghost use Rattle.outcome.specs.Outcome.{Answers};
 ghost use Rattle.pieces.specs.Bounds.{Described};
 ghost use Rattle.entry.specs.Answers.{notOpened, openedAs, openOf};
 ghost use Rattle.classic.specs.Answers.{entryFor, entryHaving};
 ghost use Rattle.classic.specs.Bounds.{Slim};
+
+// The most sections that are few.
+const FEW: u64 = 8;
 
 // An entry with a refusal.
 fn no_entry(refusal: u32) -> ClassicEntry
@@ -63,9 +67,10 @@ fn entry_having(
     }
 }
 
-// An entry that was entered with no refusal, with its tables read from the file.
-fn entry_read(order: ByteOrder, file: &[u8], entered: Entered) -> ClassicEntry
-    requires { ⌜ Slim entered × Described order (now file) (entered .start) (entered .nsec) × (entered .refusal ≡ 0) ⌝ }
+// An entry with few sections that was entered with no refusal, with its tables read from the file. The loop has a fixed
+// count of turns, which the compiler lays out one behind the other: so the tables are stored where they stay.
+fn entry_of_few(order: ByteOrder, file: &[u8], entered: Entered) -> ClassicEntry
+    requires { ⌜ Slim entered × Described order (now file) (entered .start) (entered .nsec) × (entered .refusal ≡ 0) × (entered .nsec ≤ 8) ⌝ }
     ensures { λ r. ⌜ Answers (entryFor (openedAs (now (file .entry)) entered)) r ⌝ }
 {
     let start = entered.start;
@@ -73,18 +78,21 @@ fn entry_read(order: ByteOrder, file: &[u8], entered: Entered) -> ClassicEntry
     let mut ids = [0i32; PLACES];
     let mut lengths = [0u64; PLACES];
     let mut addresses = [0u64; PLACES];
-    let mut filled = 0;
-    while filled < nsec {
-        let section = section_at(order, file, start, nsec, filled);
-        ids[filled as usize] = identifier_at(order, file, start, nsec, filled);
-        lengths[filled as usize] = section.words;
-        addresses[filled as usize] = section.address.0;
-        filled += 1;
+    let mut passed = 0;
+    while passed < FEW {
+        if passed < nsec {
+            let section = section_at(order, file, start, nsec, passed);
+            ids[passed as usize] = identifier_at(order, file, start, nsec, passed);
+            lengths[passed as usize] = section.words;
+            addresses[passed as usize] = section.address.0;
+        }
+        passed += 1;
     }
     entry_having(entered, ids, lengths, addresses)
 }
 
-// An entry by its number, or the refusal.
+// An entry by its number, or the refusal. Tables of more than a few sections are filled from the last place on: so the
+// compiler turns the numbers of a big-endian file one by one, which is faster than by two.
 #[no_mangle]
 pub extern "C" fn classic_open(file: &[u8], entry: u64) -> ClassicEntry
     ensures { λ r. ⌜ Answers (entryFor (openOf (now (file .entry)) (record { 0 = entry }))) r ⌝ }
@@ -101,5 +109,21 @@ pub extern "C" fn classic_open(file: &[u8], entry: u64) -> ClassicEntry
     if entered.nsec == 0 {
         return entry_having(entered, [0i32; PLACES], [0u64; PLACES], [0u64; PLACES]);
     }
-    entry_read(d.order, file, entered)
+    if entered.nsec <= FEW {
+        return entry_of_few(d.order, file, entered);
+    }
+    let start = entered.start;
+    let nsec = entered.nsec;
+    let mut ids = [0i32; PLACES];
+    let mut lengths = [0u64; PLACES];
+    let mut addresses = [0u64; PLACES];
+    let mut left = nsec;
+    while 0 < left {
+        left -= 1;
+        let section = section_at(d.order, file, start, nsec, left);
+        ids[left as usize] = identifier_at(d.order, file, start, nsec, left);
+        lengths[left as usize] = section.words;
+        addresses[left as usize] = section.address.0;
+    }
+    entry_having(entered, ids, lengths, addresses)
 }
