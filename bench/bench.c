@@ -15,7 +15,7 @@
 enum { FILE_BYTES = 1 << 24, DATA_BYTES = 1 << 20, SECTIONS_MAX = 64 };
 
 /* The runs of each side, of which the median is taken; the least nanoseconds of one; and the changes made to each file. */
-enum { RUNS = 41, RUN_NS = 300000, CHANGES = 400 };
+enum { RUNS = 63, RUN_NS = 300000, CHANGES = 400 };
 
 /* A file: its settings, the bytes lent, its entries, and the sections and words of data of each. */
 typedef struct {
@@ -30,9 +30,8 @@ typedef enum { VALIDATE, EXTENSION, OPEN, INDEX_WORDS, SECTION, DATA, CHECK, APP
 static const char *const call_names[CALLS] = {"validate", "extension", "open",        "index words",
                                               "section",  "data",      "order check", "append"};
 
-/* An answer of any of them, in whole lines of 64 bytes. */
+/* An answer of any of them. */
 typedef union {
-    uint8_t lines[21][64];
     classic_descriptor descriptor;
     classic_extension extension;
     classic_entry entry;
@@ -75,32 +74,44 @@ static classic_appended append_by(int careful, const shape *s, uint8_t *to) {
                                     content, section_bytes, content, data_bytes);
 }
 
+/* Ends a case: the answer is that of a call, made where it stays, and is handed on where it is asked for. */
+#define ANSWER(type, field, made) \
+    { \
+        type given = made; \
+        if (a != NULL) a->field = given; \
+        break; \
+    }
+
 /* Makes a call of the library on a file, or an append to one: of an entry or an extension by its number, of the section that
-   stands last. */
-static void by_library(call c, const shape *s, const uint8_t *file, uint8_t *to, uint64_t number, answer *a) {
+   stands last. The answer stands so many bytes above the variables of the call. */
+static void by_library(call c, const shape *s, const uint8_t *file, uint8_t *to, uint64_t number, size_t above, answer *a) {
+    volatile uint8_t between[above];
+    between[0] = 0, (void)between;
     switch (c) {
-    case VALIDATE: a->descriptor = classic_validate(file, s->bytes); break;
-    case EXTENSION: a->extension = classic_extension_of(file, s->bytes, number); break;
-    case OPEN: a->entry = classic_open(file, s->bytes, number); break;
-    case INDEX_WORDS: a->part = classic_index_words(file, s->bytes, number); break;
-    case SECTION: a->part = classic_section(file, s->bytes, number, (int32_t)s->sections); break;
-    case DATA: a->part = classic_data(file, s->bytes, number); break;
-    case CHECK: a->checked = classic_check(file, s->bytes); break;
-    default: a->appended = append_by(0, s, to); break;
+    case VALIDATE: ANSWER(classic_descriptor, descriptor, classic_validate(file, s->bytes))
+    case EXTENSION: ANSWER(classic_extension, extension, classic_extension_of(file, s->bytes, number))
+    case OPEN: ANSWER(classic_entry, entry, classic_open(file, s->bytes, number))
+    case INDEX_WORDS: ANSWER(classic_part, part, classic_index_words(file, s->bytes, number))
+    case SECTION: ANSWER(classic_part, part, classic_section(file, s->bytes, number, (int32_t)s->sections))
+    case DATA: ANSWER(classic_part, part, classic_data(file, s->bytes, number))
+    case CHECK: ANSWER(classic_checked, checked, classic_check(file, s->bytes))
+    default: ANSWER(classic_appended, appended, append_by(0, s, to))
     }
 }
 
 /* Makes the same call in C. */
-static void by_careful(call c, const shape *s, const uint8_t *file, uint8_t *to, uint64_t number, answer *a) {
+static void by_careful(call c, const shape *s, const uint8_t *file, uint8_t *to, uint64_t number, size_t above, answer *a) {
+    volatile uint8_t between[above];
+    between[0] = 0, (void)between;
     switch (c) {
-    case VALIDATE: a->descriptor = careful_validate(file, s->bytes); break;
-    case EXTENSION: a->extension = careful_extension_of(file, s->bytes, number); break;
-    case OPEN: a->entry = careful_open(file, s->bytes, number); break;
-    case INDEX_WORDS: a->part = careful_index_words(file, s->bytes, number); break;
-    case SECTION: a->part = careful_section(file, s->bytes, number, (int32_t)s->sections); break;
-    case DATA: a->part = careful_data(file, s->bytes, number); break;
-    case CHECK: a->checked = careful_check(file, s->bytes); break;
-    default: a->appended = append_by(1, s, to); break;
+    case VALIDATE: ANSWER(classic_descriptor, descriptor, careful_validate(file, s->bytes))
+    case EXTENSION: ANSWER(classic_extension, extension, careful_extension_of(file, s->bytes, number))
+    case OPEN: ANSWER(classic_entry, entry, careful_open(file, s->bytes, number))
+    case INDEX_WORDS: ANSWER(classic_part, part, careful_index_words(file, s->bytes, number))
+    case SECTION: ANSWER(classic_part, part, careful_section(file, s->bytes, number, (int32_t)s->sections))
+    case DATA: ANSWER(classic_part, part, careful_data(file, s->bytes, number))
+    case CHECK: ANSWER(classic_checked, checked, careful_check(file, s->bytes))
+    default: ANSWER(classic_appended, appended, append_by(1, s, to))
     }
 }
 
@@ -140,8 +151,8 @@ static void compare(call c, const shape *s, int32_t order, uint64_t number) {
     static answer a, b;
     int same;
     if (c == APPEND) memcpy(written[0], files[order], s->bytes), memcpy(written[1], files[order], s->bytes);
-    by_library(c, s, files[order], written[0], number, &a);
-    by_careful(c, s, files[order], written[1], number, &b);
+    by_library(c, s, files[order], written[0], number, 1, &a);
+    by_careful(c, s, files[order], written[1], number, 1, &b);
     same = same_answer(c, &a, &b) && (c != APPEND || memcmp(written[0], written[1], s->bytes) == 0);
     compared++;
     if (!same && ++differing <= 10) printf("DIFFERS %s of %llu, %s\n", call_names[c], (unsigned long long)number, s->name);
@@ -183,13 +194,13 @@ static double median(double *numbers, size_t count) {
    made again. Each run has its answers at another place of a page: where an answer lies at the place of the table that it is
    copied from, the copy takes longer. */
 static double time_of(side w, call c, const shape *s, uint8_t *to, uint64_t number, size_t times, int run) {
-    static answer answers[RUNS];
     const uint8_t *file = files[w.order];
+    size_t above = 64 * ((size_t)run + 1);
     double began = now();
     for (size_t i = 0; i < times; i++) {
         if (c == APPEND) memcpy(to + 24, file + 24, 20);
-        if (w.careful) by_careful(c, s, file, to, number, &answers[run]);
-        else by_library(c, s, file, to, number, &answers[run]);
+        if (w.careful) by_careful(c, s, file, to, number, above, NULL);
+        else by_library(c, s, file, to, number, above, NULL);
     }
     return now() - began;
 }
