@@ -1,25 +1,20 @@
 // What the crates above ask of an entry of validated numbers. The addresses are those that the file has.
 use super::entered::Entered;
 use super::entered::refused;
+use super::head::head_of;
 use super::rules::content_refusal;
 use super::rules::head_refusal;
 use super::rules::start_refusal;
 use descriptor::DescriptorNumbers;
 use descriptor::inner::aex_in;
 use descriptor::inner::slot_in_use;
-use geometry::EntryAddress;
 use geometry::EntryNumber;
 use geometry::Place;
 use geometry::RecordNumber;
 use geometry::WordNumber;
 use geometry::byte_offset;
 use geometry::entries_before;
-use geometry::entry_position;
 use geometry::position;
-use layout::entry_descriptor;
-use pieces::Piece;
-use pieces::word4_at;
-use pieces::word8_at;
 use words::ByteOrder;
 ghost use mathlib.Core.Path.{_≡_};
 ghost use Prim.Native.Nat.{_+_, _*_, _≤_};
@@ -64,28 +59,23 @@ pub fn enter_at(file: &[u8], d: DescriptorNumbers, slot: u64, number: EntryNumbe
         return refused(outside);
     }
     let start = position(d.reclen, place.record, place.word);
-    let head = head_refusal(file, d, start, number);
-    if head != 0 {
-        return refused(head);
+    let head = head_of(d.order, file, start);
+    let broken = head_refusal(file, d, start, head, number);
+    if broken != 0 {
+        return refused(broken);
     }
-    let nsec = word4_at(d.order, file, start, entry_descriptor::NSEC);
-    let nword = word8_at(d.order, file, start, entry_descriptor::NWORD);
-    let array = Piece {
-        address: EntryAddress(word8_at(d.order, file, start, entry_descriptor::ADATA)),
-        words: word8_at(d.order, file, start, entry_descriptor::LDATA),
-    };
-    let content = content_refusal(d.order, file, start, nsec, nword, array);
+    let array = head.array;
+    let content = content_refusal(d.order, file, start, head.nsec, head.nword, array);
     if content != 0 {
         return refused(content);
     }
-    let version = byte_offset(entry_position(start, entry_descriptor::VERSION));
     Entered {
         refusal: 0,
         place,
         start,
-        version: words::i32_at(d.order, file, version),
-        nsec,
-        nword,
+        version: head.version,
+        nsec: head.nsec,
+        nword: head.nword,
         array,
     }
 }

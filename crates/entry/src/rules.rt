@@ -1,4 +1,5 @@
 // The rules of an entry, 13 to 19, tested in the order of their tables.
+use super::head::Head;
 use descriptor::DescriptorNumbers;
 use descriptor::inner::free_position;
 use geometry::EntryNumber;
@@ -13,18 +14,15 @@ use pieces::data_apart;
 use pieces::data_within;
 use pieces::sections_apart;
 use pieces::sections_spread;
-use pieces::word4_at;
-use pieces::word8_at;
 use words::ByteOrder;
 ghost use mathlib.Core.Path.{_≡_};
 ghost use Prim.Native.Nat.{_+_, _*_, _^_, _≤_, _<_};
 ghost use lib.ListN.{length};
 ghost use Rattle.outcome.specs.Outcome.{Answers};
-ghost use Rattle.layout.specs.FileCode.{byteOrderOf};
 ghost use Rattle.layout.specs.EntryWords.{headWords};
 ghost use Rattle.descriptor.specs.FirstRecord.{freeOf};
 ghost use Rattle.descriptor.specs.Bounds.{Settled, Free};
-ghost use Rattle.entry.specs.Opening.{startRefusal, headRefusal, contentRefusal};
+ghost use Rattle.entry.specs.Opening.{headOf, startRefusal, headRefusal, contentRefusal};
 ghost use Rattle.pieces.specs.Bounds.{Described};
 
 // Rule 13, where an entry starts: 0 or 13.
@@ -50,14 +48,15 @@ pub(crate) fn start_refusal(d: DescriptorNumbers, place: Place) -> u32
     0
 }
 
-// Rules 14 to 16, the descriptor of the entry at a position: the first that is broken, or 0.
+// Rules 14 to 16, the descriptor of the entry at a position, of which the numbers are read: the first that is broken, or 0.
 pub(crate) fn head_refusal(
     file: &[u8],
     d: DescriptorNumbers,
     start: u64,
+    head: Head,
     number: EntryNumber,
 ) -> u32
-    requires { ⌜ (d .reclen ≤ 4096) × Free d × (start + headWords ≤ freeOf d) × (4 * freeOf d ≤ length (now file)) × (d .order ≡ byteOrderOf (now file)) ⌝ }
+    requires { ⌜ (d .reclen ≤ 4096) × Free d × (start + headWords ≤ freeOf d) × (4 * freeOf d ≤ length (now file)) × (head ≡ headOf (now file) start) ⌝ }
     ensures { λ r. ⌜ Answers (headRefusal (now (file .entry)) d start number) r ⌝ }
 {
     let code = entry_descriptor::ENTRY_CODE;
@@ -65,18 +64,16 @@ pub(crate) fn head_refusal(
     if !words::code_at(file, at, code[0], code[1], code[2], code[3]) {
         return 14;
     }
-    let nsec = word4_at(d.order, file, start, entry_descriptor::NSEC);
-    if !words::within4(nsec, 0, entry_descriptor::SECTIONS_MAX) {
+    if !words::within4(head.nsec, 0, entry_descriptor::SECTIONS_MAX) {
         return 15;
     }
-    let nword = word8_at(d.order, file, start, entry_descriptor::NWORD);
-    if !words::at_least8(nword, descriptor_words(nsec)) {
+    if !words::at_least8(head.nword, descriptor_words(head.nsec)) {
         return 15;
     }
-    if free_position(d) < start + nword {
+    if free_position(d) < start + head.nword {
         return 15;
     }
-    if word8_at(d.order, file, start, entry_descriptor::XNUM) != number.0 {
+    if head.xnum != number.0 {
         return 16;
     }
     0
