@@ -21,7 +21,6 @@ use Rattle.pieces.specs.declared.contents.Piece.{Piece}
 use Rattle.pieces.specs.EntryDescriptor.{entryCodeOf, versionOf, nsecOf, nwordOf, xnumOf, dataOf}
 use Rattle.pieces.specs.Contents.{dataWithin, sectionsWithin, sectionsApart, dataApart}
 use Rattle.entry.specs.declared.entered.Entered.{Entered}
-use Rattle.entry.specs.declared.head.Head.{Head}
 
 -- where the index of entry e stands: its slot in its extension's area
 unfoldable pub slotPositionOf : DescriptorNumbers → List RecordNumber → EntryNumber → ℕ
@@ -39,16 +38,6 @@ placeStored file slot = record {
 -- the position where it starts
 abbrev pub startOf : DescriptorNumbers → Place → ℕ
 startOf d place = positionOf (d .reclen) (place .«record») (place .word)
-
--- what the entry descriptor says, but for its code and its tables
-abbrev pub headOf : List ℕ → ℕ → Head
-headOf file start = record {
-  version = versionOf file start;
-  nsec = nsecOf file start;
-  nword = nwordOf file start;
-  array = dataOf file start;
-  xnum = xnumOf file start;
-}
 
 -- rule 12: the number asked for
 abbrev pub numberRules : DescriptorNumbers → EntryNumber → List Rule

@@ -1,7 +1,6 @@
 // What the crates above ask of an entry of validated numbers. The addresses are those that the file has.
 use super::entered::Entered;
 use super::entered::refused;
-use super::head::head_of;
 use super::rules::content_refusal;
 use super::rules::head_refusal;
 use super::rules::start_refusal;
@@ -15,6 +14,8 @@ use geometry::WordNumber;
 use geometry::byte_offset;
 use geometry::entries_before;
 use geometry::position;
+use pieces::Piece;
+use pieces::head_at;
 use words::ByteOrder;
 ghost use mathlib.Core.Path.{_≡_};
 ghost use Prim.Native.Nat.{_+_, _*_, _≤_};
@@ -59,12 +60,16 @@ pub fn enter_at(file: &[u8], d: DescriptorNumbers, slot: u64, number: EntryNumbe
         return refused(outside);
     }
     let start = position(d.reclen, place.record, place.word);
-    let head = head_of(d.order, file, start);
+    let head = head_at(d.order, file, start);
     let broken = head_refusal(file, d, start, head, number);
     if broken != 0 {
         return refused(broken);
     }
-    let array = head.array;
+    let address = head.adata;
+    let array = Piece {
+        address,
+        words: head.ldata,
+    };
     let content = content_refusal(d.order, file, start, head.nsec, head.nword, array);
     if content != 0 {
         return refused(content);

@@ -4,7 +4,6 @@
 // functions of `inner` are for the crates above, which have validated before they call.
 mod answers;
 mod entered;
-mod head;
 pub mod inner;
 mod opening;
 mod rules;

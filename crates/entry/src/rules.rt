@@ -1,5 +1,4 @@
 // The rules of an entry, 13 to 19, tested in the order of their tables.
-use super::head::Head;
 use descriptor::DescriptorNumbers;
 use descriptor::inner::free_position;
 use geometry::EntryNumber;
@@ -9,6 +8,7 @@ use geometry::entry_position;
 use geometry::position_within;
 use layout::entry_descriptor;
 use layout::entry_descriptor::descriptor_words;
+use pieces::Head;
 use pieces::Piece;
 use pieces::data_apart;
 use pieces::data_within;
@@ -22,7 +22,8 @@ ghost use Rattle.outcome.specs.Outcome.{Answers};
 ghost use Rattle.layout.specs.EntryWords.{headWords};
 ghost use Rattle.descriptor.specs.FirstRecord.{freeOf};
 ghost use Rattle.descriptor.specs.Bounds.{Settled, Free};
-ghost use Rattle.entry.specs.Opening.{headOf, startRefusal, headRefusal, contentRefusal};
+ghost use Rattle.entry.specs.Opening.{startRefusal, headRefusal, contentRefusal};
+ghost use Rattle.pieces.specs.EntryDescriptor.{headAt};
 ghost use Rattle.pieces.specs.Bounds.{Described};
 
 // Rule 13, where an entry starts: 0 or 13.
@@ -56,7 +57,7 @@ pub(crate) fn head_refusal(
     head: Head,
     number: EntryNumber,
 ) -> u32
-    requires { ⌜ (d .reclen ≤ 4096) × Free d × (start + headWords ≤ freeOf d) × (4 * freeOf d ≤ length (now file)) × (head ≡ headOf (now file) start) ⌝ }
+    requires { ⌜ (d .reclen ≤ 4096) × Free d × (start + headWords ≤ freeOf d) × (4 * freeOf d ≤ length (now file)) × (head ≡ headAt (now file) start) ⌝ }
     ensures { λ r. ⌜ Answers (headRefusal (now (file .entry)) d start number) r ⌝ }
 {
     let code = entry_descriptor::ENTRY_CODE;
@@ -73,7 +74,8 @@ pub(crate) fn head_refusal(
     if free_position(d) < start + head.nword {
         return 15;
     }
-    if head.xnum != number.0 {
+    let xnum = head.xnum;
+    if xnum.0 != number.0 {
         return 16;
     }
     0

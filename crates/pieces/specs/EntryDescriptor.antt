@@ -10,6 +10,7 @@ use Rattle.geometry.specs.Units.{entryPositionOf, offsetOf}
 use Rattle.layout.specs.FileCode.{byteOrderOf}
 use Rattle.layout.specs.EntryWords.{entryCodeWord, versionWord, nsecWord, nwordWord, adataWord, ldataWord, xnumWord, identifierWord, lengthWord, addressWord}
 use Rattle.pieces.specs.declared.contents.Piece.{Piece}
+use Rattle.pieces.specs.declared.head.Head.{Head}
 
 -- where a word of the entry stands, in bytes
 abbrev pub wordOffset : ℕ → EntryAddress → ℕ
@@ -50,6 +51,17 @@ ldataOf file start = word8 file start ldataWord
 -- xnum, the entry's number
 abbrev pub xnumOf : List ℕ → ℕ → ℕ
 xnumOf file start = word8 file start xnumWord
+
+-- the head: all of these
+abbrev pub headAt : List ℕ → ℕ → Head
+headAt file start = record {
+  version = versionOf file start;
+  nsec = nsecOf file start;
+  nword = nwordOf file start;
+  adata = adataOf file start;
+  ldata = ldataOf file start;
+  xnum = record { 0 = xnumOf file start };
+}
 
 -- the identifier of section i; in the three tables sections are counted from 0
 abbrev pub identifierAt : List ℕ → ℕ → ℕ → ℤ

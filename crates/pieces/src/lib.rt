@@ -4,6 +4,7 @@
 // test where its pieces stand. They are for entries whose words lie within the file, read in the order that
 // its code says, which they require.
 mod contents;
+mod head;
 mod spread;
 mod tables;
 
@@ -12,6 +13,8 @@ pub use contents::data_within;
 pub use contents::section_at;
 pub use contents::word4_at;
 pub use contents::word8_at;
+pub use head::Head;
+pub use head::head_at;
 pub use spread::Spread;
 pub use spread::data_apart;
 pub use spread::sections_apart;

@@ -17,7 +17,7 @@ use Rattle.entry.specs.Opening.{slotPositionOf}
 use Rattle.placing.specs.declared.placement.Placement.{Placement}
 use Rattle.placing.specs.Placing.{full, entryStart, numbersAfter, addressesAfter}
 use Rattle.placing.specs.Placement.{placedAt}
-use Rattle.storing.specs.declared.head.Head.{Head}
+use Rattle.pieces.specs.declared.head.Head.{Head}
 use Rattle.storing.specs.Handed.{Handed, handedIn, nsecIn, nwordIn}
 use Rattle.storing.specs.Writing.{headOf}
 use Rattle.storing.specs.Bounds.{Describing, Accepted, Storing}

@@ -24,7 +24,7 @@ use Rattle.placing.specs.declared.placement.Placement.{Placement}
 use Rattle.placing.specs.Placing.{full, newArea, newStart, entryStart, numbersAfter, addressesAfter}
 use Rattle.placing.specs.Placement.{placedAt}
 use Rattle.fields.specs.FieldWrites.{field, countWrites}
-use Rattle.storing.specs.declared.head.Head.{Head}
+use Rattle.pieces.specs.declared.head.Head.{Head}
 use Rattle.storing.specs.Handed.{Handed}
 use Rattle.storing.specs.Writing.{headOf, headWrites, tableWrites, slotWrites}
 

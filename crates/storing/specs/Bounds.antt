@@ -15,7 +15,7 @@ use Rattle.placing.specs.declared.placement.Placement.{Placement}
 use Rattle.placing.specs.Placing.{entryStart}
 use Rattle.placing.specs.Placement.{placedAt}
 use Rattle.placing.specs.Bounds.{Extensible}
-use Rattle.storing.specs.declared.head.Head.{Head}
+use Rattle.pieces.specs.declared.head.Head.{Head}
 use Rattle.storing.specs.Handed.{Handed, sumOf, positive, nwordIn}
 use Rattle.storing.specs.Writing.{headOf}
 

@@ -22,7 +22,7 @@ use Rattle.descriptor.specs.declared.numbers.DescriptorNumbers.{DescriptorNumbe
 use Rattle.descriptor.specs.FirstRecord.{freeOf}
 use Rattle.pieces.specs.EntryDescriptor.{wordOffset}
 use Rattle.entry.specs.Opening.{slotPositionOf}
-use Rattle.storing.specs.declared.head.Head.{Head}
+use Rattle.pieces.specs.declared.head.Head.{Head}
 use Rattle.fields.specs.FieldWrites.{field, countWrites}
 use Rattle.storing.specs.Handed.{Handed, wordsOf, sumOf, nsecIn, ldataIn, nwordIn}
 use Rattle.placing.specs.Placing.{full, newArea, entryStart, numbersAfter, addressesAfter}

@@ -1,4 +1,4 @@
-// The head of an entry: its numbers, and writing its words.
+// The head of a new entry: its numbers, and writing its words.
 use geometry::EntryAddress;
 use geometry::EntryNumber;
 use geometry::byte_offset;
@@ -6,6 +6,7 @@ use geometry::entry_position;
 use layout::entry_descriptor;
 use layout::entry_descriptor::descriptor_words;
 use layout::entry_descriptor::first_content;
+use pieces::Head;
 use words::ByteOrder;
 ghost use mathlib.Core.Bool.{cond};
 ghost use Prim.Native.Nat.{_+_, _*_, _^_, _≤_, _<_};
@@ -18,16 +19,6 @@ ghost use Rattle.words.specs.Word.{numeral};
 ghost use Rattle.layout.specs.EntryWords.{firstContent, headWords, sectionsMax};
 ghost use Rattle.pieces.specs.EntryDescriptor.{wordOffset};
 ghost use Rattle.storing.specs.Writing.{headFrom, headWrites};
-
-// The numbers in the head of an entry.
-pub struct Head {
-    pub version: i32,
-    pub nsec: u64,
-    pub nword: u64,
-    pub adata: EntryAddress,
-    pub ldata: u64,
-    pub xnum: EntryNumber,
-}
 
 // The address of the data behind sections of so many words, 0 without data.
 fn adata_of(nsec: u64, section_words: u64, ldata: u64) -> EntryAddress

@@ -9,7 +9,6 @@ mod storing;
 mod tables;
 
 pub use area::put_rest;
-pub use head::Head;
 pub use head::head_of;
 pub use steps::put_content;
 pub use steps::put_descriptor;

@@ -1,7 +1,6 @@
 // The slot of a new entry, and the first steps of storing an accepted append, one after the other: the entry's
 // descriptor, its content, and its index.
 // The content may come from other slices: only its step reads them.
-use super::head::Head;
 use super::head::put_head;
 use super::tables::put_tables;
 use descriptor::DescriptorNumbers;
@@ -15,6 +14,7 @@ use geometry::entries_before;
 use geometry::entry_position;
 use geometry::position;
 use geometry::total_before;
+use pieces::Head;
 use placing::new_area;
 use words::ByteOrder;
 ghost use mathlib.Core.Path.{_≡_};

@@ -1,6 +1,5 @@
 // Storing an accepted append at its place.
 use super::area::put_rest;
-use super::head::Head;
 use super::steps::new_slot;
 use super::steps::put_content;
 use super::steps::put_descriptor;
@@ -9,6 +8,7 @@ use descriptor::DescriptorNumbers;
 use fields::put_counts;
 use geometry::place_at;
 use layout::entry_descriptor::first_content;
+use pieces::Head;
 use placing::Placement;
 use placing::numbers_after;
 ghost use Rattle.outcome.specs.Outcome.{Leaves};

@@ -31,6 +31,10 @@ unfolding littleNumber
 little-append [] ys = omega arith
 little-append (x ∷ xs) ys = rw (little-append xs ys, pow-succ', mul-assoc) (omega arith)
 
+-- an order whose number is 0 is that one
+pub order-little : (o : ByteOrder) → o .0 ≡ 0 → record { 0 = 0 } ≡ o
+order-little o e = λ i. record { 0 = sym e i }
+
 -- ---- bytes, and what keeps them such
 
 -- each of a list is a byte

@@ -11,18 +11,18 @@ use mir.Facts.{toZ-ofZ}
 use Rattle.geometry.specs.Units.{entriesBefore}
 use Rattle.descriptor.specs.Refusal.{refusalIn}
 use Rattle.descriptor.specs.FirstRecord.{addressesOf}
-use Rattle.pieces.specs.EntryDescriptor.{nsecOf, nwordOf, dataOf}
+use Rattle.pieces.specs.EntryDescriptor.{nsecOf, nwordOf, dataOf, headAt}
 use Rattle.pieces.specs.Bounds.{Described}
 use Rattle.pieces.proofs.Pieces.{described-in}
-use Rattle.entry.specs.declared.head.Head.{Head}
-use Rattle.entry.specs.Opening.{headOf, slotPositionOf, placeStored, startOf, numberRules, startRefusal, headRefusal, contentRefusal, entryRefusal, enteredAt, enteredOf}
+use Rattle.pieces.specs.declared.head.Head.{Head}
+use Rattle.entry.specs.Opening.{slotPositionOf, placeStored, startOf, numberRules, startRefusal, headRefusal, contentRefusal, entryRefusal, enteredAt, enteredOf}
 use Rattle.entry.proofs.Entering.{Begins, Heads, free-within, slot-lent, start-passed, head-passed, refused-start, refused-head, entry-content, entered-numbers, entered-refused}
 use borrow.Author.Needs.{needs, sfits-of}
 use Rattle.entry.proofs.inner.enter_at.Statement.{statement}
 use Rattle.entry.proofs.inner.enter_at.Tie as tie
 
 -- what holds of a start and of the numbers that stand there holds of the two that are they
-of-read : (P : ℕ → Head → Type 0) (file : List ℕ) (start : ℕ) {at : ℕ} {h : Head} → at ≡ start → h ≡ headOf file at → P start (headOf file start) → P at h
+of-read : (P : ℕ → Head → Type 0) (file : List ℕ) (start : ℕ) {at : ℕ} {h : Head} → at ≡ start → h ≡ headAt file at → P start (headAt file start) → P at h
 of-read P file start e q p = rw (q, e) p
 
 -- the places behind the tests, each made of the one that follows
@@ -32,10 +32,10 @@ begin c = c .before .before
 abbrev placed : tie.Else1 → tie.After-place-stored
 placed c = c .before .before
 
-abbrev begun : tie.After-head-of → tie.Else1
+abbrev begun : tie.After-head-at → tie.Else1
 begun c = c .before .before
 
-abbrev read : tie.Else2 → tie.After-head-of
+abbrev read : tie.Else2 → tie.After-head-at
 read c = c .before .before
 
 abbrev headed : tie.After-content-refusal → tie.Else2
@@ -74,26 +74,28 @@ heads c =
 
 -- the refusal of the whole table is that of the contents
 whole : (c : tie.After-content-refusal) → let a = given (begun (read (headed c))) .args in entryRefusal (a .file .now) (a .d) (addressesOf (a .file .now) (a .d .nex)) (a .number) ≡ c .content-refusal .result
+unfolding dataOf
 whole c =
     let h = headed c in
     let r = read h in
     let b = begun r in
     let a = given b .args in
-    let content = of-read (λ s x. contentRefusal (a .file .now) (start b) (nsecOf (a .file .now) (start b)) (nwordOf (a .file .now) (start b)) (dataOf (a .file .now) (start b)) ≡ contentRefusal (a .file .now) s (x .nsec) (x .nword) (x .array))
-        (a .file .now) (start b) (r .before .position .ensures) (r .head-of .ensures) refl in
+    let content = of-read (λ s x. contentRefusal (a .file .now) (start b) (nsecOf (a .file .now) (start b)) (nwordOf (a .file .now) (start b)) (dataOf (a .file .now) (start b)) ≡ contentRefusal (a .file .now) s (x .nsec) (x .nword) (record { address = x .adata; words = x .ldata }))
+    (a .file .now) (start b) (r .before .position .ensures) (r .head-at .ensures) refl in
     entry-content _ _ _ _ (numbered (given b)) (placed b .place-stored .result) (place (placed b)) _ (none b) (sym (head (h .before)) ∙ h .if2 .left)
     (content ∙ sym (c .content-refusal .ensures))
 
 returns-4 : tie.Need-returns-4
+unfolding dataOf
 returns-4 c =
     let k = c .before .before in
     let r = read (headed k) in
     let b = begun r in
-    let version : toZ w32 (ofZ w32 (r .head-of .result .version)) ≡ r .head-of .result .version = toZ-ofZ (sfits-of (c .struct-told .given .0 .1)) in
+    let version : toZ w32 (ofZ w32 (r .head-at .result .version)) ≡ r .head-at .result .version = toZ-ofZ (sfits-of (c .struct-told .given .0 .1)) in
     let a = given b .args in
     rw version (of-read
-    (λ s x. record { refusal = 0; place = placed b .place-stored .result; start = s; version = x .version; nsec = x .nsec; nword = x .nword; array = x .array } ≡ enteredOf (a .file .now) (a .d) (addressesOf (a .file .now) (a .d .nex)) (a .number))
-    (a .file .now) (start b) (r .before .position .ensures) (r .head-of .ensures)
+    (λ s x. record { refusal = 0; place = placed b .place-stored .result; start = s; version = x .version; nsec = x .nsec; nword = x .nword; array = record { address = x .adata; words = x .ldata } } ≡ enteredOf (a .file .now) (a .d) (addressesOf (a .file .now) (a .d .nex)) (a .number))
+    (a .file .now) (start b) (r .before .position .ensures) (r .head-at .ensures)
     (ap (enteredAt _ (a .d)) (place (placed b)) ∙ sym (entered-numbers _ _ _ _ (whole k ∙ c .before .if3 .left))))
 
 pub enter-at-spec : {M : Type 1} → statement M
@@ -117,7 +119,7 @@ enter-at-spec =
     (λ c κs.
     let b = begun c in
     let p = given b .pre .0 in
-    (p .admitted .settled .reclen-high, p .admitted .free, rw (c .before .position .ensures) (begins b .ends), free-within _ _ _ (p .admitted), c .head-of .ensures))
+    (p .admitted .settled .reclen-high, p .admitted .free, rw (c .before .position .ensures) (begins b .ends), free-within _ _ _ (p .admitted), c .head-at .ensures))
     (λ c κs. search needs)
     (λ c.
     let h = c .before .before in
@@ -128,7 +130,7 @@ enter-at-spec =
     let e = c .before in
     let r = read e in
     let a = given (begun r) .args in
-    of-read (λ s x. Described (a .d .order) (a .file .now) s (x .nsec) × (x .nword < 2 ^ 32)) (a .file .now) (start (begun r)) (r .before .position .ensures) (r .head-of .ensures)
+    of-read (λ s x. Described (a .d .order) (a .file .now) s (x .nsec) × (x .nword < 2 ^ 32)) (a .file .now) (start (begun r)) (r .before .position .ensures) (r .head-at .ensures)
     (described-in (given (begun r) .pre .0 .order) (heads e .described), heads e .nword-small))
     (λ c κs. search needs)
     (λ c. let k = c .before .before in c .refused3 .ensures ∙ sym (entered-refused _ _ _ _ _ (whole k) (ne-eqb _ _ (c .before .if3 .taken))))

@@ -17,7 +17,7 @@ use Rattle.descriptor.proofs.Tests.{holds, broken}
 use Rattle.descriptor.proofs.Refusals.{Past, past-none, next, stop}
 use Rattle.layout.specs.EntryWords.{entryCode, descriptorWords}
 use Rattle.pieces.specs.EntryDescriptor.{entryCodeOf, nsecOf, nwordOf, xnumOf}
-use Rattle.entry.specs.declared.head.Head.{Head}
+use Rattle.pieces.specs.declared.head.Head.{Head}
 use Rattle.entry.specs.Opening.{headRules, headRefusal}
 use borrow.Author.Needs.{needs}
 use Rattle.entry.proofs.rules.head_refusal.Statement.{statement}
@@ -62,9 +62,9 @@ ends c b t = rw (nword (past-3 (c .before) .given), c .free-position .ensures) a
 abbrev past-4 : tie.Else4 → Past rules 4
 past-4 c = next (past-3 (c .before .before .before)) (ends (c .before .before) true (le-leb _ _ (c .if4 .left)))
 
-same : (c : tie.After-struct-known3) (b : Bool) → let p = past-4 (c .before .before) .given in
-    eqb (p .args .head .xnum) (p .args .number .0) ≡ b → eqb (xnumOf (p .args .file .now) (p .args .start)) (p .args .number .0) ≡ b
-same c b t = rw (ap (λ (h : Head). h .xnum) (past-4 (c .before .before) .given .pre .4)) at t
+same : (c : tie.After-struct-known3) (b : Bool) → let p = past-4 (c .before .before .before) .given in
+    eqb (p .args .head .xnum .0) (p .args .number .0) ≡ b → eqb (xnumOf (p .args .file .now) (p .args .start)) (p .args .number .0) ≡ b
+same c b t = rw (ap (λ (h : Head). h .xnum .0) (past-4 (c .before .before .before) .given .pre .4)) at t
 
 pub head-refusal-spec : {M : Type 1} → statement M
 unfolding headRefusal
@@ -91,5 +91,5 @@ head-refusal-spec =
     let bounds = atLeast-bounds w64 (descriptorWords (nsecOf (a .file .now) (a .start))) (nwordOf (a .file .now) (a .start)) (p .rows .1 .1 .0) in
     omega (arith, nword (p .given), p .given .pre .2, p .given .pre .3))
     (λ c. stop (past-3 (c .before .before .before)) (ends (c .before .before) false (lt-leb _ _ (c .if4 .taken))))
-    (λ c. stop (past-4 (c .before .before .before)) (same (c .before) false (ne-eqb _ _ (c .if5 .taken))))
-    (λ c. stop (next (past-4 (c .before .before .before)) (same (c .before) true (eq-eqb _ _ (c .if5 .left)))) refl))
+    (λ c. stop (past-4 (c .before .before .before .before)) (same (c .before) false (ne-eqb _ _ (c .if5 .taken))))
+    (λ c. stop (next (past-4 (c .before .before .before .before)) (same (c .before) true (eq-eqb _ _ (c .if5 .left)))) refl))

@@ -11,7 +11,7 @@ use Rattle.placing.specs.declared.placement.Placement.{Placement}
 use Rattle.placing.specs.Rules.{placementRefusal}
 use Rattle.placing.specs.Placement.{placedAt, placementOf}
 use Rattle.placing.proofs.Placed.{place-refusal, place-stands}
-use Rattle.storing.specs.declared.head.Head.{Head}
+use Rattle.pieces.specs.declared.head.Head.{Head}
 use Rattle.storing.specs.Handed.{Handed, handedIn, nwordIn}
 use Rattle.storing.specs.Writing.{headOf}
 use Rattle.storing.specs.AsMade.{storeWrites}

@@ -1,4 +1,4 @@
--- `entry::head::head_in` meets its contract. Assumes nothing.
+-- `pieces::head::head_in` meets its contract. Assumes nothing.
 use mathlib.Core.Path.{_≡_, ap, _∙_}
 use native.Mathlib.Omega.{arith}
 use borrow.Author.Needs.{needs, sfits-of}
@@ -6,9 +6,9 @@ use mir.Facts.{toZ-ofZ}
 use Rattle.words.specs.declared.byte_order.ByteOrder.{ByteOrder}
 use Rattle.words.specs.Word.{integer4, signedAt}
 use Rattle.layout.specs.EntryWords.{versionWord}
-use Rattle.pieces.specs.EntryDescriptor.{wordOffset, word4, versionOf, dataOf}
-use Rattle.entry.proofs.head.head_in.Statement.{statement}
-use Rattle.entry.proofs.head.head_in.Tie as tie
+use Rattle.pieces.specs.EntryDescriptor.{wordOffset, word4, versionOf}
+use Rattle.pieces.proofs.head.head_in.Statement.{statement}
+use Rattle.pieces.proofs.head.head_in.Tie as tie
 
 -- the version read is that of the entry
 version : (c : tie.After-i32-at) → let a = c .before .before .before .before .args in c .i32-at .result ≡ versionOf (a .file .now) (a .start)
@@ -19,7 +19,6 @@ version c =
     ∙ ap (λ (o : ByteOrder). signedAt o integer4 (s .args .file .now) (wordOffset (s .args .start) versionWord)) (s .pre .0)
 
 pub head-in-spec : {M : Type 1} → statement M
-unfolding dataOf
 head-in-spec =
     tie.close
     (tie.spec
