@@ -12,6 +12,7 @@ mod creating;
 mod opening;
 mod parts;
 mod recording;
+mod sections;
 mod tables;
 mod updating;
 mod validating;

@@ -1,5 +1,8 @@
 // Opening an entry, for C.
 use super::answers::ClassicEntry;
+use super::sections::fill_addresses;
+use super::sections::fill_identifiers;
+use super::sections::fill_lengths;
 use descriptor::Validated;
 use descriptor::inner::admit;
 use descriptor::refusal_of;
@@ -91,8 +94,7 @@ fn entry_of_few(order: ByteOrder, file: &[u8], entered: Entered) -> ClassicEntry
     entry_having(entered, ids, lengths, addresses)
 }
 
-// An entry by its number, or the refusal. Tables of more than a few sections are filled from the last place on: so the
-// compiler turns the numbers of a big-endian file one by one, which is faster than by two.
+// An entry by its number, or the refusal.
 #[no_mangle]
 pub extern "C" fn classic_open(file: &[u8], entry: u64) -> ClassicEntry
     ensures { λ r. ⌜ Answers (entryFor (openOf (now (file .entry)) (record { 0 = entry }))) r ⌝ }
@@ -106,24 +108,18 @@ pub extern "C" fn classic_open(file: &[u8], entry: u64) -> ClassicEntry
     if entered.refusal != 0 {
         return no_entry(entered.refusal);
     }
-    if entered.nsec == 0 {
+    let nsec = entered.nsec;
+    if nsec == 0 {
         return entry_having(entered, [0i32; PLACES], [0u64; PLACES], [0u64; PLACES]);
     }
-    if entered.nsec <= FEW {
+    if nsec <= FEW {
         return entry_of_few(d.order, file, entered);
     }
-    let start = entered.start;
-    let nsec = entered.nsec;
     let mut ids = [0i32; PLACES];
     let mut lengths = [0u64; PLACES];
     let mut addresses = [0u64; PLACES];
-    let mut left = nsec;
-    while 0 < left {
-        left -= 1;
-        let section = section_at(d.order, file, start, nsec, left);
-        ids[left as usize] = identifier_at(d.order, file, start, nsec, left);
-        lengths[left as usize] = section.words;
-        addresses[left as usize] = section.address.0;
-    }
+    fill_identifiers(d.order, file, entered.start, nsec, &mut ids);
+    fill_lengths(d.order, file, entered.start, nsec, &mut lengths);
+    fill_addresses(d.order, file, entered.start, nsec, &mut addresses);
     entry_having(entered, ids, lengths, addresses)
 }
