@@ -10,10 +10,12 @@ use words::ByteOrder;
 ghost use mathlib.Core.Path.{_≡_};
 ghost use mathlib.Core.Bool.{true};
 ghost use Prim.Native.Nat.{_+_, _*_, _^_, _≤_, _<_};
-ghost use lib.ListN.{length};
+ghost use lib.IntN.{pos};
+ghost use lib.ListN.{length, getD};
 ghost use Rattle.outcome.specs.Outcome.{Leaves};
 ghost use Rattle.image.specs.Image.{splice};
 ghost use Rattle.image.specs.Writes.{writes};
+ghost use Rattle.words.specs.Word.{integer8, signedNumeral};
 ghost use Rattle.geometry.specs.Units.{offsetOf};
 ghost use Rattle.layout.specs.EntryWords.{descriptorWords, sectionsMax};
 ghost use Rattle.storing.specs.Handed.{sumOf, positive};
@@ -37,21 +39,29 @@ fn put_identifiers(order: ByteOrder, file: &mut [u8], position: u64, ids: &[i32]
     }
 }
 
-// Writes lengths one after another from a position on.
+// Writes length `i` of a table of lengths that begins at a position.
+fn put_length(order: ByteOrder, file: &mut [u8], position: u64, lengths: &[i64], i: usize)
+    requires { ⌜ (position < 2 ^ 32) × (length (now lengths) ≤ sectionsMax) × (4 * (position + 2 * length (now lengths)) ≤ length (now file)) × (i < length (now lengths)) ⌝ }
+    ensures { λ _. ⌜ Leaves (splice (now (file .entry)) (offsetOf position + 8 * i) (signedNumeral order integer8 (getD (now (lengths .entry)) i (pos 0)))) (now (file .exit)) ⌝ }
+{
+    let words = lengths[i];
+    words::put_i64(order, file, byte_offset(position + 2 * (i as u64)), words)
+}
+
+// Writes lengths one after another from a position on. A turn writes two: so the compiler turns those of a big-endian file one
+// by one, which is faster than both at once.
 fn put_lengths(order: ByteOrder, file: &mut [u8], position: u64, lengths: &[i64])
     requires { ⌜ (position < 2 ^ 32) × (length (now lengths) ≤ sectionsMax) × (4 * (position + 2 * length (now lengths)) ≤ length (now file)) ⌝ }
     ensures { λ _. ⌜ Leaves (splice (now (file .entry)) (offsetOf position) (lengthBytes order (now (lengths .entry)))) (now (file .exit)) ⌝ }
 {
     let mut done = 0;
-    while done < lengths.len() {
-        let words = lengths[done];
-        words::put_i64(
-            order,
-            file,
-            byte_offset(position + 2 * (done as u64)),
-            words,
-        );
-        done += 1;
+    while done + 1 < lengths.len() {
+        put_length(order, file, position, lengths, done);
+        put_length(order, file, position, lengths, done + 1);
+        done += 2;
+    }
+    if done < lengths.len() {
+        put_length(order, file, position, lengths, done);
     }
 }
 
