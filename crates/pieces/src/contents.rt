@@ -27,7 +27,7 @@ pub struct Piece {
 }
 
 // The bits of the Integer*4 at a word of the entry.
-pub fn word4_at(order: ByteOrder, file: &[u8], start: u64, address: EntryAddress) -> u64
+pub(crate) fn word4_at(order: ByteOrder, file: &[u8], start: u64, address: EntryAddress) -> u64
     requires { ⌜ (order ≡ byteOrderOf (now file)) × (1 ≤ address .0) × (4 * (start + address .0) ≤ length (now file)) ⌝ }
     ensures { λ r. ⌜ Answers (word4 (now (file .entry)) start address) r ⌝ }
 {
@@ -35,7 +35,7 @@ pub fn word4_at(order: ByteOrder, file: &[u8], start: u64, address: EntryAddress
 }
 
 // The bits of the Integer*8 at a word of the entry and the next.
-pub fn word8_at(order: ByteOrder, file: &[u8], start: u64, address: EntryAddress) -> u64
+pub(crate) fn word8_at(order: ByteOrder, file: &[u8], start: u64, address: EntryAddress) -> u64
     requires { ⌜ (order ≡ byteOrderOf (now file)) × (1 ≤ address .0) × (4 * (start + address .0 + 1) ≤ length (now file)) ⌝ }
     ensures { λ r. ⌜ Answers (word8 (now (file .entry)) start address) r ⌝ }
 {

@@ -11,8 +11,6 @@ mod tables;
 pub use contents::Piece;
 pub use contents::data_within;
 pub use contents::section_at;
-pub use contents::word4_at;
-pub use contents::word8_at;
 pub use head::Head;
 pub use head::head_at;
 pub use spread::Spread;
