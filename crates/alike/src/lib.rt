@@ -3,3 +3,5 @@
 //
 // The same first record gives the same validation, the same slot and entry descriptor the same open
 // and the same places of the parts, and all the same words of an entry the same bytes of its parts.
+
+#![tactic(auto)]

@@ -2,7 +2,7 @@
 
 // The answer of `append_batch`: the refusal, 0 when all entries were accepted, and how many were.
 #[repr(C)]
-#[derive(Drop)]
+#[derive(Clone, Copy)]
 pub struct Batched {
     pub refusal: u32,
     pub accepted: u64,

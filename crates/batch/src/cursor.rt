@@ -5,7 +5,7 @@ ghost use Rattle.batch.specs.Cursor.{begun, past, Small};
 use super::rules::{DATA_BYTES, ID_COUNT, INDEX_BYTES, LENGTH_COUNT, SECTION_BYTES};
 
 // For each array, the place of the first element that no entry has taken.
-#[derive(Drop)]
+#[derive(Clone, Copy)]
 pub struct Cursor {
     pub index: usize,
     pub ids: usize,

@@ -4,6 +4,8 @@
 // and each append works from the numbers that the one before it left in the file. Its entries are taken
 // where they lie in the lent arrays: nothing is copied but into the file. The functions of `inner`
 // are for the crates above, which have validated before they call.
+#![tactic(auto)]
+
 mod answers;
 mod batching;
 mod cursor;

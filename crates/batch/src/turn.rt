@@ -16,7 +16,7 @@ use writer::inner::append_from;
 
 // Where a batch stands: the refusal of its last entry, the numbers of the file, and the cursor before the
 // next entry.
-#[derive(Drop)]
+#[derive(Clone, Copy)]
 pub struct Turn {
     pub refusal: u32,
     pub numbers: DescriptorNumbers,

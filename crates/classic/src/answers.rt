@@ -4,7 +4,7 @@ use layout::entry_descriptor::PLACES;
 // A file's descriptor: the refusal, 0 when it is admitted; its byte order; its numbers; and the first record of each
 // index area, zero past nex.
 #[repr(C)]
-#[derive(Drop)]
+#[derive(Clone, Copy)]
 pub struct ClassicDescriptor {
     pub refusal: u32,
     pub order: u32,
@@ -25,7 +25,7 @@ pub struct ClassicDescriptor {
 // An extension: the refusal, its capacity in entries, and its index area's first record and count of
 // records.
 #[repr(C)]
-#[derive(Drop)]
+#[derive(Clone, Copy)]
 pub struct ClassicExtension {
     pub refusal: u32,
     pub capacity: u64,
@@ -36,7 +36,7 @@ pub struct ClassicExtension {
 // An opened entry: the refusal, where it starts, its numbers as stored, and its sections, zero past
 // nsec.
 #[repr(C)]
-#[derive(Drop)]
+#[derive(Clone, Copy)]
 pub struct ClassicEntry {
     pub refusal: u32,
     pub record: u64,
@@ -53,7 +53,7 @@ pub struct ClassicEntry {
 
 // A part of the lent file: the refusal, and its start and length in bytes.
 #[repr(C)]
-#[derive(Drop)]
+#[derive(Clone, Copy)]
 pub struct ClassicPart {
     pub refusal: u32,
     pub start: u64,
@@ -62,7 +62,7 @@ pub struct ClassicPart {
 
 // An order check: the first entry that fails, and its refusal.
 #[repr(C)]
-#[derive(Drop)]
+#[derive(Clone, Copy)]
 pub struct ClassicChecked {
     pub entry: u64,
     pub refusal: u32,
@@ -70,7 +70,7 @@ pub struct ClassicChecked {
 
 // What a caller chooses for a new file.
 #[repr(C)]
-#[derive(Drop)]
+#[derive(Clone, Copy)]
 pub struct ClassicSettings {
     pub order: i32,
     pub reclen: i32,

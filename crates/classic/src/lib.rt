@@ -5,6 +5,8 @@
 // the answer is not laid out as C has it, it is put into a struct for C; specs/Answers.antt says which
 // field is which. No call has a premise. What the border assumes of a caller in C, and cannot prove: each pointer leads to as many
 // elements as its count says, aligned for their type, and the buffers of one call do not overlap.
+#![tactic(auto)]
+
 mod answers;
 mod appending;
 mod checking;

@@ -8,7 +8,7 @@ use geometry::{ExtensionNumber, RecordNumber, area_records, total_before};
 
 // The answer of `extension_of`: the refusal, 0 when there is such an extension; how many entries it
 // holds; and its index area, by its first record and its count of records.
-#[derive(Drop)]
+#[derive(Clone, Copy)]
 pub struct Extension {
     pub refusal: u32,
     pub capacity: u64,

@@ -4,6 +4,8 @@
 // numbers or the number of the first rule that the file breaks (1 to 11, then 29); it reads the first
 // record alone. The functions of `inner` are for the crates above: `admit` validates as `validate` does
 // and leaves the totals of the extensions in use, and the others are for what it admitted.
+#![tactic(auto)]
+
 mod extensions;
 pub mod inner;
 mod numbers;

@@ -6,7 +6,7 @@ use geometry::{EntryNumber, RecordNumber, WordNumber};
 use words::ByteOrder;
 
 // What a caller chooses for a new file.
-#[derive(Drop)]
+#[derive(Clone, Copy)]
 pub struct Settings {
     pub order: i32,
     pub reclen: i32,
@@ -21,7 +21,7 @@ pub struct Settings {
 // The order that the code of a first record says, and its fields but the addresses: as stored while they
 // are tested, and within their limits once they are validated.
 #[repr(C)]
-#[derive(Drop)]
+#[derive(Clone, Copy)]
 pub struct DescriptorNumbers {
     pub order: ByteOrder,
     pub reclen: u64,

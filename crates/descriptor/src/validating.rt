@@ -10,7 +10,7 @@ use geometry::{EntryNumber, RecordNumber, WordNumber};
 use words::ByteOrder;
 
 // The case of a validation: the numbers of an admitted file, or the refusal.
-#[derive(Drop)]
+#[derive(Clone, Copy)]
 pub enum Validated {
     Numbers(DescriptorNumbers),
     Refused(u32),
@@ -18,7 +18,7 @@ pub enum Validated {
 
 // The answer of `validate`: the refusal, 0 when the descriptor is admitted; the case; and the
 // addresses of the extensions in use, the other places zero.
-#[derive(Drop)]
+#[derive(Clone, Copy)]
 pub struct Validation {
     pub refusal: u32,
     pub numbers: Validated,
@@ -26,7 +26,7 @@ pub struct Validation {
 }
 
 // What a case says: 01's number, 0 for numbers, and 01's values, zeros for a refusal.
-#[derive(Drop)]
+#[derive(Clone, Copy)]
 pub struct ValidatedCase {
     pub refusal: u32,
     pub numbers: DescriptorNumbers,

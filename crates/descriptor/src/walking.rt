@@ -14,7 +14,7 @@ use geometry::{Growth, RecordNumber, table_index, walk_begun, walk_on};
 // What the walk finds: whether a capacity is over the limit; the record after the last index area, 0
 // where the areas do not keep their order; and how many entries the extensions in use hold together,
 // without the last and with it.
-#[derive(Drop)]
+#[derive(Clone, Copy)]
 pub struct Walked {
     pub over: bool,
     pub after: RecordNumber,

@@ -1,3 +1,3 @@
 -- The laws of `entry` that later layers cite.
 pub mod Entering
-pub mod Opened
+pub mod OpenedEntry

@@ -7,25 +7,25 @@ use pieces::Sections;
 
 // The address of an entry's data as stored: the EntryAddress of its first word where there is data,
 // and anything, also a negative number, where there is none.
-#[derive(Drop)]
+#[derive(Clone, Copy)]
 pub struct DataAddress(pub i64);
 
 // Where the data stands, and how many words it has, as stored.
-#[derive(Drop)]
+#[derive(Clone, Copy)]
 pub struct DataPlace {
     pub adata: DataAddress,
     pub ldata: u64,
 }
 
 // The case of an open: start, version, nsec, nword and the data's place, or the refusal.
-#[derive(Drop)]
+#[derive(Clone, Copy)]
 pub enum Open {
     Numbers(Place, i32, u64, u64, DataPlace),
     Refused(u32),
 }
 
 // What a case says: 01's number, 0 for numbers, and 01's values, zeros for a refusal.
-#[derive(Drop)]
+#[derive(Clone, Copy)]
 pub struct OpenCase {
     pub refusal: u32,
     pub place: Place,
@@ -36,7 +36,7 @@ pub struct OpenCase {
 }
 
 // The answer of `open_entry`: the case, and beside it the tables of the sections.
-#[derive(Drop)]
+#[derive(Clone, Copy)]
 pub struct Opened {
     pub answer: Open,
     pub sections: Sections,

@@ -6,7 +6,7 @@ use geometry::{EntryAddress, Place, RecordNumber, WordNumber};
 use pieces::Piece;
 
 // The numbers of an entry, or the refusal with zeros.
-#[derive(Drop)]
+#[derive(Clone, Copy)]
 pub struct Entered {
     pub refusal: u32,
     pub place: Place,

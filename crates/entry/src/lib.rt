@@ -2,6 +2,8 @@
 //
 // `open_entry` validates the file first and refuses by 1 to 11, 29, or 12 to 19, in this order. The
 // functions of `inner` are for the crates above, which have validated before they call.
+#![tactic(auto)]
+
 mod answers;
 mod entered;
 pub mod inner;

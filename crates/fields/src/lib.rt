@@ -2,6 +2,8 @@
 //
 // The words stand where `layout` names them. Nothing is refused here: a caller knows that the numbers fit their words
 // and that the record lies within the slice.
+#![tactic(auto)]
+
 ghost use Rattle.std.specs.Prelude.{◌+◌, ◌*◌, ◌-◌, ◌^◌, ◌≤◌, ◌<◌, length};
 ghost use Rattle.outcome.specs.Outcome.{Leaves};
 ghost use Rattle.image.specs.Image.{splice, zeros};

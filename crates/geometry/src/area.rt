@@ -7,7 +7,7 @@ use super::units::ExtensionNumber;
 
 // Where an entry's index stands: the extension, the place among its slots counted from 1, and the
 // offset in words from the start of its area.
-#[derive(Drop)]
+#[derive(Clone, Copy)]
 pub struct Slot {
     pub extension: ExtensionNumber,
     pub place: u64,

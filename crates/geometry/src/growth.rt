@@ -3,7 +3,7 @@ ghost use Rattle.outcome.specs.Outcome.{Answers};
 ghost use Rattle.geometry.specs.Growth.{growth_of};
 
 // The capacity of the first extension, and ten times the factor from one to the next.
-#[derive(Drop)]
+#[derive(Clone, Copy)]
 pub struct Growth {
     pub lex1: u64,
     pub gex: u64,

@@ -3,6 +3,8 @@
 // Records, words of a record, entries, extensions and words of an entry are counted from 1, and each
 // is a type of its own. A position counts words from 0 at the file's start, an offset counts bytes.
 // The functions of `units` are the only ones that turn one into another.
+#![tactic(auto)]
+
 mod area;
 mod growth;
 mod totals;

@@ -5,29 +5,29 @@ ghost use Rattle.geometry.specs.Units.{position_of, place_of, entry_position_of,
 
 // A record of the file.
 #[repr(C)]
-#[derive(Drop)]
+#[derive(Clone, Copy)]
 pub struct RecordNumber(pub u64);
 
 // A word of a record.
 #[repr(C)]
-#[derive(Drop)]
+#[derive(Clone, Copy)]
 pub struct WordNumber(pub u64);
 
 // An entry of the file.
 #[repr(C)]
-#[derive(Drop)]
+#[derive(Clone, Copy)]
 pub struct EntryNumber(pub u64);
 
 // An extension of the file.
-#[derive(Drop)]
+#[derive(Clone, Copy)]
 pub struct ExtensionNumber(pub u64);
 
 // A word of an entry.
-#[derive(Drop)]
+#[derive(Clone, Copy)]
 pub struct EntryAddress(pub u64);
 
 // A word of the file, by its record and its word there.
-#[derive(Drop)]
+#[derive(Clone, Copy)]
 pub struct Place {
     pub record: RecordNumber,
     pub word: WordNumber,

@@ -12,7 +12,7 @@ use super::units::ExtensionNumber;
 
 // An extension that a walk has come to: the capacities of those before it together, and its own, in
 // entries and in parts.
-#[derive(Drop)]
+#[derive(Clone, Copy)]
 pub struct Walk {
     pub extension: ExtensionNumber,
     pub before: u64,

@@ -26,7 +26,7 @@ use Rattle.pieces.proofs.Pieces.{described-in, section-placed, data-placed}
 use Rattle.entry.specs.declared.entered.Entered.{Entered}
 use Rattle.entry.specs.Opening.{number_rules, entered_of}
 use Rattle.entry.proofs.Entering.{slot_lent, entry-number, entered-refused}
-use Rattle.entry.proofs.Opened.{Known, known}
+use Rattle.entry.proofs.OpenedEntry.{Known, known}
 use Rattle.handing.specs.declared.place.PartPlace.{PartPlace}
 use Rattle.handing.specs.Bounds.{Readable}
 use Rattle.handing.specs.Parts.{no_part, piece_from, index_part, section_in, section_part, data_part, part_in, index_words_of, section_words_of, data_words_of, IsPart}

@@ -4,6 +4,8 @@
 // that is handed out is the very part of the lent slice; where it is empty, a call with the same
 // arguments and `_refusal` behind its name tells a refusal from a part with nothing in it. The functions
 // of `inner` are for callers that have validated before they call.
+#![tactic(auto)]
+
 pub mod inner;
 mod parts;
 mod place;

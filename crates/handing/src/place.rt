@@ -1,7 +1,7 @@
 // The answer of this crate's calls by value.
 
 // A part of the lent bytes: the refusal, 0 when it is handed out, and where it starts and ends.
-#[derive(Drop)]
+#[derive(Clone, Copy)]
 pub struct PartPlace {
     pub refusal: u32,
     pub start: usize,

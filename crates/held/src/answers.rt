@@ -6,7 +6,7 @@ use geometry::RecordNumber;
 // place; the first record of each index area; and how many entries the extensions up to each hold
 // together. C has these numbers in this order (include/classic.h).
 #[repr(C)]
-#[derive(Drop)]
+#[derive(Clone, Copy)]
 pub struct OpenFile {
     pub numbers: DescriptorNumbers,
     pub addresses: [RecordNumber; 16],
@@ -15,7 +15,7 @@ pub struct OpenFile {
 
 // The answer of `open_file_of`: the refusal, 0 when the file is admitted, and its record.
 #[repr(C)]
-#[derive(Drop)]
+#[derive(Clone, Copy)]
 pub struct OpenFileAnswer {
     pub refusal: u32,
     pub file: OpenFile,

@@ -3,6 +3,8 @@
 // Every field of it follows from the file's first record, so a record is true of a file or it is not, and
 // `held_refusal` says which. The functions of `inner` are for the crates above, which have validated
 // before they call.
+#![tactic(auto)]
+
 mod answers;
 mod comparing;
 pub mod inner;

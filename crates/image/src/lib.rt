@@ -3,6 +3,8 @@
 // An image is a list of bytes, and offsets count bytes from 0. A function that writes says what the
 // whole slice holds at exit, so a caller learns of every byte whether it changed. Every write of the
 // library to a file goes through `put`.
+#![tactic(auto)]
+
 ghost use Rattle.std.specs.Prelude.{◌≡◌, ◌+◌, ◌%◌, ◌^◌, ◌≤◌, ◌<◌, length};
 ghost use Rattle.outcome.specs.Outcome.{Leaves};
 ghost use Rattle.image.specs.Image.{splice, zeros};

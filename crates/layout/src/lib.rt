@@ -3,6 +3,8 @@
 //
 // Reader and writer name a word by these, so that each stands once. The functions are for tables
 // that have been found to be short and files that have a first word, which they require.
+#![tactic(auto)]
+
 pub mod entry_descriptor;
 pub mod file_code;
 pub mod first_record;

@@ -1,5 +1,7 @@
 // The listing program: it reads a file on standard input and writes its listing to standard output.
 // What cannot be read or written is told on standard error.
+#![tactic(auto)]
+
 use libc::{STDIN_FILENO, STDOUT_FILENO};
 use listing::{INPUT_MAX, OUTPUT_ROOM};
 

@@ -3,6 +3,8 @@
 // `list_file` writes the listing to a lent buffer; `list_input` writes what the program `list` prints of
 // its input, to a buffer that is proved to hold it. A file that is refused, and an entry that open
 // refuses, have a line that says so.
+#![tactic(auto)]
+
 mod entries;
 mod listing;
 mod rows;

@@ -3,6 +3,8 @@
 // `check_order` validates the file, then opens entries 1 to n in turn and tests that each stands where
 // a file written by appends has it. The first failure ends it. A file that passes is one from which
 // appends are safe.
+#![tactic(auto)]
+
 mod answers;
 mod checking;
 pub mod inner;

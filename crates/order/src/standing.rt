@@ -10,7 +10,7 @@ use geometry::{EntryNumber, ExtensionNumber, WordNumber, position, total_before}
 
 // Where an entry stands in the index: its extension, how many entries the extensions before it and up to it hold
 // together, and the position of its slot.
-#[derive(Drop)]
+#[derive(Clone, Copy)]
 pub struct Standing {
     pub extension: ExtensionNumber,
     pub before: u64,

@@ -3,3 +3,5 @@
 // Every contract of a public function is one relation between what goes in and what comes out: the
 // answer is the one that a definition gives, and a lent slice is left as a definition has it. So two
 // outcomes of a call that both meet its contract are equal.
+
+#![tactic(auto)]

@@ -15,7 +15,7 @@ use layout::entry_descriptor::{address_word, first_content, length_word};
 use words::ByteOrder;
 
 // A run of an entry's words.
-#[derive(Drop)]
+#[derive(Clone, Copy)]
 pub struct Piece {
     pub address: EntryAddress,
     pub words: u64,

@@ -11,7 +11,7 @@ use layout::entry_descriptor;
 use words::ByteOrder;
 
 // The numbers in the head of an entry.
-#[derive(Drop)]
+#[derive(Clone, Copy)]
 pub struct Head {
     pub version: i32,
     pub nsec: u64,

@@ -3,6 +3,8 @@
 // An entry is known by the position of its first word. The functions read its words and tables, and
 // test where its pieces stand. They are for entries whose words lie within the file, read in the order that
 // its code says, which they require.
+#![tactic(auto)]
+
 mod contents;
 mod head;
 mod spread;

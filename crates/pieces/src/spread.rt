@@ -14,7 +14,7 @@ use words::ByteOrder;
 
 // Whether all sections have a word at least and lie within the words that content may have, whether none
 // starts before the end of one before it, and the highest of their ends.
-#[derive(Drop)]
+#[derive(Clone, Copy)]
 pub struct Spread {
     pub within: bool,
     pub ordered: bool,

@@ -11,7 +11,7 @@ use layout::entry_descriptor::{PLACES, identifier_word};
 use words::ByteOrder;
 
 // The sections of an opened entry: the first nsec places of each table, the others zero.
-#[derive(Drop)]
+#[derive(Clone, Copy)]
 pub struct Sections {
     pub identifiers: [i32; PLACES],
     pub lengths: [u64; PLACES],

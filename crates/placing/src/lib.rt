@@ -2,6 +2,8 @@
 // or the refusal, 23 or 24; and the numbers of the file afterwards.
 //
 // Nothing here reads a file: all follows from the numbers of one that passed the rules.
+#![tactic(auto)]
+
 mod after;
 mod areas;
 mod placement;

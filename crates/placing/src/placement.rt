@@ -11,7 +11,7 @@ use descriptor::DescriptorNumbers;
 
 // Where an entry goes: the refusal, 0 when it has a place; whether a new extension is made for it; and
 // the position where it starts, 0 when refused.
-#[derive(Drop)]
+#[derive(Clone, Copy)]
 pub struct Placement {
     pub refusal: u32,
     pub extends: bool,

@@ -11,7 +11,7 @@ use Rattle.pieces.specs.EntryDescriptor.{section_of}
 use Rattle.entry.specs.declared.entered.Entered.{Entered}
 use Rattle.entry.specs.Answers.{open_of}
 use Rattle.entry.proofs.Entering.{entered-numbers}
-use Rattle.entry.proofs.Opened.{open-numbers}
+use Rattle.entry.proofs.OpenedEntry.{open-numbers}
 use Rattle.handing.specs.Parts.{part_in, piece_from, bytes_of}
 use Rattle.alike.proofs.Described.{Describes, open-there, section-place}
 use Rattle.alike.proofs.Agreeing.{Agrees, index-there, piece-there, data-part-there}

@@ -19,7 +19,7 @@ use Rattle.entry.specs.declared.answers.Open.TheVariants as answers
 use Rattle.entry.specs.Opening.{place_stored, slot_position_of, entry_refusal, entered_at}
 use Rattle.entry.specs.Answers.{opened_as, open_of, data_place_of}
 use Rattle.entry.proofs.Entering.{Opens, entry-opens, entered-numbers}
-use Rattle.entry.proofs.Opened.{open-numbers}
+use Rattle.entry.proofs.OpenedEntry.{open-numbers}
 use Rattle.handing.specs.Parts.{piece_from, bytes_of}
 use Rattle.descriptor.specs.Answers.{Validates}
 use Rattle.promises.specs.Contents.{start_in, piece_at, Section, section_read}

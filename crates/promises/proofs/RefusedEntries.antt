@@ -18,7 +18,7 @@ use Rattle.entry.specs.declared.answers.Open.TheVariants as answers
 use Rattle.entry.specs.Opening.{number_rules, entered_of, not_entered}
 use Rattle.entry.specs.Answers.{opened_as, open_of}
 use Rattle.entry.proofs.Entering.{entered-refused, entry-number}
-use Rattle.entry.proofs.Opened.{open-numbers}
+use Rattle.entry.proofs.OpenedEntry.{open-numbers}
 use Rattle.handing.specs.Parts.{no_part, index_part, section_part, data_part, part_in, index_words_of, section_words_of, data_words_of}
 use Rattle.promises.specs.Contents.{refused, reading_of}
 

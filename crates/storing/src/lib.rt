@@ -2,6 +2,8 @@
 //
 // Nothing is refused here: a caller knows, before the first byte is written, that all of it has its place. Each step
 // writes its own bytes and no other.
+#![tactic(auto)]
+
 mod area;
 mod head;
 mod steps;

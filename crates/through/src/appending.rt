@@ -9,7 +9,7 @@ use writer::Appended;
 use writer::inner::append_from;
 
 // The answer of `append_through`: the record as it is afterwards, and what `append` answers.
-#[derive(Drop)]
+#[derive(Clone, Copy)]
 pub struct AppendedThrough {
     pub held: OpenFile,
     pub answer: Appended,

@@ -9,7 +9,7 @@ use batch::{Batched, batch_refusal};
 use held::{OpenFile, held_refusal};
 
 // The answer of `append_batch_through`: the record as it is afterwards, and what `append_batch` answers.
-#[derive(Drop)]
+#[derive(Clone, Copy)]
 pub struct BatchedThrough {
     pub held: OpenFile,
     pub answer: Batched,

@@ -3,6 +3,8 @@
 // Each call compares the record with the file, for which it validates it once, and then works from the
 // numbers and totals of the record. It answers the record as it is afterwards, beside what the call
 // without a record answers.
+#![tactic(auto)]
+
 mod appending;
 mod batching;
 mod keeping;

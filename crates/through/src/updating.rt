@@ -8,7 +8,7 @@ use held::{OpenFile, held_refusal};
 use update::inner::update_at;
 
 // The answer of `update_through`: the record as it is afterwards, and what `update_section` answers.
-#[derive(Drop)]
+#[derive(Clone, Copy)]
 pub struct UpdatedThrough {
     pub held: OpenFile,
     pub answer: u32,

@@ -4,6 +4,8 @@
 // for it. The entry's numbers and tables stay as they are, the section's length field among them, so
 // the space is not lost; and no other word of the file changes. The functions of `inner` are for callers
 // that have found the section before they call.
+#![tactic(auto)]
+
 pub mod inner;
 mod rules;
 mod updating;

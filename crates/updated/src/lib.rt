@@ -2,3 +2,5 @@
 //
 // Which bytes an update changes, that the file validates after it as before, and that the entry opens
 // as it did, with the same bytes of all its pieces but the section rewritten.
+
+#![tactic(auto)]

@@ -18,14 +18,14 @@ const LENGTHS: usize = 3;
 const WORDS: usize = 4;
 
 // How many identifiers and lengths were listed.
-#[derive(Drop)]
+#[derive(Clone, Copy)]
 pub(crate) struct Listed {
     pub(crate) ids: usize,
     pub(crate) lengths: usize,
 }
 
 // Where the bytes of the index, of the sections and of the data end.
-#[derive(Drop)]
+#[derive(Clone, Copy)]
 pub(crate) struct PartEnds {
     pub(crate) index: usize,
     pub(crate) sections: usize,

@@ -1,5 +1,7 @@
 // The calls of the library run on file A of the scope of work, on P5 to P12, and on both sides of every bound, in files of
 // both orders, one line a case. The cases are the script on standard input; their lines are held to the file stdout.
+#![tactic(auto)]
+
 mod answers;
 mod batching;
 mod every;

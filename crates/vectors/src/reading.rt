@@ -4,7 +4,7 @@ ghost use Rattle.std.specs.Prelude.{◌+◌, ◌≤◌, length};
 use super::printing::wrong;
 
 // What was read: how many numbers, and where the reading stopped.
-#[derive(Drop)]
+#[derive(Clone, Copy)]
 pub(crate) struct Read {
     pub(crate) count: usize,
     pub(crate) next: usize,
@@ -14,14 +14,14 @@ pub(crate) struct Read {
 const NONE: u64 = 0xffff_ffff_ffff_ffff;
 
 // A number, and where it ends; where it was looked for if there is none.
-#[derive(Drop)]
+#[derive(Clone, Copy)]
 struct Value {
     value: i64,
     next: usize,
 }
 
 // The number of digits, and where they end.
-#[derive(Drop)]
+#[derive(Clone, Copy)]
 struct Magnitude {
     value: u64,
     next: usize,

@@ -5,6 +5,8 @@
 // that the theorem speaks of what the code does is itself proved. `append_and_update` does so with an
 // append and an update of a section. `create_and_append` starts from a file that it creates: of that
 // start the contract assumes nothing.
+#![tactic(auto)]
+
 ghost use Rattle.storing.specs.Handed.{handed};
 ghost use Rattle.update.specs.Answers.{update_in};
 ghost use Rattle.witness.specs.Begun.{CreatesAndAppends};
@@ -17,21 +19,21 @@ use update::update_section;
 use writer::{Appended, append, create};
 
 // What two appends answer.
-#[derive(Drop)]
+#[derive(Clone, Copy)]
 pub struct Twice {
     pub first: Appended,
     pub second: Appended,
 }
 
 // What an append and the update behind it answer: the append's answer, and the update's refusal.
-#[derive(Drop)]
+#[derive(Clone, Copy)]
 pub struct Revised {
     pub appended: Appended,
     pub updated: u32,
 }
 
 // What a creation and the append behind it answer: the creation's refusal, and the append's answer.
-#[derive(Drop)]
+#[derive(Clone, Copy)]
 pub struct Begun {
     pub created: u32,
     pub appended: Appended,

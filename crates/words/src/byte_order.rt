@@ -6,7 +6,7 @@ ghost use Rattle.words.specs.Word.{little_number, little_numeral, number};
 // 0: the least significant byte comes first. 1: the most significant byte does. The rules of a file admit no other
 // number.
 #[repr(C)]
-#[derive(Drop)]
+#[derive(Clone, Copy)]
 pub struct ByteOrder(pub u64);
 
 // The number whose four bytes are those of another turned round.

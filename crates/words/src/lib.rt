@@ -3,6 +3,8 @@
 //
 // Offsets count bytes from 0. A reader says which number the bytes at an offset stand for, a writer
 // what the whole image holds at exit, a test what the signed value is. A caller shows that the word lies within the image.
+#![tactic(auto)]
+
 mod byte_order;
 mod code;
 mod range;

@@ -4,6 +4,8 @@
 // byte. An append copies each byte of sections and data once, and touches nothing else but its index
 // slot, the counts of the first record, and a new index area where one is needed. The functions of
 // `inner` are for the crates above, which have validated before they call.
+#![tactic(auto)]
+
 mod answers;
 mod appending;
 mod creating;

@@ -6,7 +6,7 @@ use Rattle.descriptor.proofs.Answered.{Admits, case-told, case-left}
 use Rattle.pieces.specs.Bounds.{Described}
 use Rattle.pieces.proofs.Pieces.{described-in}
 use Rattle.entry.specs.Answers.{opened_as, open_of}
-use Rattle.entry.proofs.Opened.{known, open-refused, open-numbers}
+use Rattle.entry.proofs.OpenedEntry.{known, open-refused, open-numbers}
 use Rattle.classic.specs.Answers.{entry_for, entry_having}
 use Rattle.classic.specs.Bounds.{Slim}
 use Rattle.classic.proofs.Narrow.{slim}

@@ -8,7 +8,7 @@ use mir.Facts.{to_z-of_z}
 use Rattle.descriptor.proofs.Answered.{Admits, case-told, case-left}
 use Rattle.pieces.proofs.Pieces.{described-in}
 use Rattle.entry.specs.Answers.{opened_as, open_of}
-use Rattle.entry.proofs.Opened.{known, open-refused, open-numbers}
+use Rattle.entry.proofs.OpenedEntry.{known, open-refused, open-numbers}
 use Rattle.entry.proofs.opening.open_entry.Statement.{statement}
 use Rattle.entry.proofs.opening.open_entry.Tie as tie
 

@@ -3,7 +3,7 @@ use native.Mathlib.Omega.{arith}
 use mathlib.Core.Path.{◌∙◌}
 use borrow.Author.Tests.{eq-eqb, ne_eqb}
 use Rattle.pieces.proofs.Pieces.{Placed, data-placed}
-use Rattle.entry.proofs.Opened.{Known, known}
+use Rattle.entry.proofs.OpenedEntry.{Known, known}
 use Rattle.handing.specs.Parts.{data_part}
 use borrow.Author.Rules.{rules}
 use Rattle.handing.proofs.inner.data_part.Statement.{statement}

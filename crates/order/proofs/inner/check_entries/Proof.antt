@@ -7,7 +7,7 @@ use borrow.Author.Rules.{rules}
 use borrow.Author.Tests.{ne_eqb}
 use Rattle.geometry.specs.declared.units.EntryNumber.{EntryNumber}
 use Rattle.descriptor.specs.FirstRecord.{addresses_of}
-use Rattle.entry.proofs.Opened.{Known, known}
+use Rattle.entry.proofs.OpenedEntry.{Known, known}
 use Rattle.order.specs.declared.standing.Standing.{Standing}
 use Rattle.order.specs.Standing.{standing_of, InUse, StandsIn, Follows}
 use Rattle.order.proofs.Standings.{standing-none, standing-slot}
