@@ -5,6 +5,6 @@ use Rattle.words.specs.Word.{little_number, little_numeral}
 use Rattle.words.proofs.byte_order.swapped4.Statement.{statement}
 use Rattle.words.proofs.byte_order.swapped4.Tie as tie
 
-pub swapped4-spec : {M : Type 1} → statement M
+pub swapped4_spec : {M : Type 1} → statement M
 unfolding little_number little_numeral
-swapped4-spec = tie.close (tie.spec (λ c. search rules) (λ c. search rules) (λ c. search rules) (λ c. search rules) (λ c. search rules) (λ c. search rules) (λ c. omega arith))
+swapped4_spec = tie.close (tie.spec (λ c. search rules) (λ c. search rules) (λ c. search rules) (λ c. search rules) (λ c. search rules) (λ c. search rules) (λ c. omega arith))

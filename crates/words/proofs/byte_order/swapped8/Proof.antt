@@ -6,7 +6,7 @@ use Rattle.words.proofs.byte_order.swapped8.Statement.{statement}
 use Rattle.words.proofs.byte_order.swapped8.Tie as tie
 
 returns : tie.Need-returns
-returns c = let s = c.before.before in rw (reverse-halves s.args.bits s.ranges.bits.fits) (omega (arith, c.before.swapped4.ensures, c.swapped42.ensures))
+returns c = let s = c.before.before in rw (reverse-halves s.args.bits s.ranges.bits.fits) (omega (arith, c.before.swapped4-low.ensures, c.swapped4-high.ensures))
 
-pub swapped8-spec : {M : Type 1} → statement M
-swapped8-spec = tie.close (tie.spec (λ c. search rules) (λ c κs. search rules) (λ c. search rules) (λ c. search rules) (λ c κs. search rules) (λ c. search rules) (λ c. search rules) (λ c. search rules) returns)
+pub swapped8_spec : {M : Type 1} → statement M
+swapped8_spec = tie.close (tie.spec (λ c. search rules) (λ c κs. search rules) (λ c. search rules) (λ c. search rules) (λ c κs. search rules) (λ c. search rules) (λ c. search rules) (λ c. search rules) returns)

@@ -7,10 +7,10 @@ use Rattle.words.proofs.Number.{number-little, number-big}
 use Rattle.words.proofs.byte_order.turned4.Statement.{statement}
 use Rattle.words.proofs.byte_order.turned4.Tie as tie
 
-pub turned4-spec : {M : Type 1} → statement M
-turned4-spec =
+pub turned4_spec : {M : Type 1} → statement M
+turned4_spec =
     tie.close
     (tie.spec
     (λ c κs. search rules)
-    (λ c. let s = c.before.before in sym (number-little s.args.order 4 s.args.bits (eq-eqb _ _ c.if1.true) (omega (arith, s.ranges.bits.fits))))
-    (λ c. let s = c.before.before.before in c.swapped4.ensures ∙ sym (number-big s.args.order _ (ne_eqb _ _ c.before.if1.false))))
+    (λ c. let s = c.before.before in sym (number-little s.args.order 4 s.args.bits (eq-eqb _ _ c.if-order-eq0.true) (omega (arith, s.ranges.bits.fits))))
+    (λ c. let s = c.before.before.before in c.swapped4.ensures ∙ sym (number-big s.args.order _ (ne_eqb _ _ c.before.if-order-eq0.false))))

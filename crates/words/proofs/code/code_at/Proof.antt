@@ -17,7 +17,7 @@ returns c =
     let a = s.args in
     ap₂ eqb c.before.little4.ensures c.word.ensures
     ∙ same_number (part a.image.now a.at 4) (a.a ∷ a.b ∷ a.c ∷ a.d ∷ [])
-    (bytes-part a.image.now a.at 4 (λ i. (c.before.before.shared-slice-known.given i).fits)) (omega arith, (omega arith, (omega arith, (omega arith, tt)))) (length_part a.image.now a.at 4 s.requires)
+    (bytes-part a.image.now a.at 4 (λ i. (c.before.before.shared_slice_known-1.given i).fits)) (omega arith, (omega arith, (omega arith, (omega arith, tt)))) (length_part a.image.now a.at 4 s.requires)
 
-pub code-at-spec : {M : Type 1} → statement M
-code-at-spec = tie.close (tie.spec (λ c κs. search rules) (λ c κs. search rules) returns)
+pub code_at_spec : {M : Type 1} → statement M
+code_at_spec = tie.close (tie.spec (λ c κs. search rules) (λ c κs. search rules) returns)

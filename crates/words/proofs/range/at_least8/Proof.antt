@@ -5,5 +5,5 @@ use Rattle.words.proofs.Ranges.{at_least-bits}
 use Rattle.words.proofs.range.at_least8.Statement.{statement}
 use Rattle.words.proofs.range.at_least8.Tie as tie
 
-pub at-least8-spec : {M : Type 1} → statement M
-at-least8-spec = tie.close (tie.spec (λ c. rw (at_least-bits w64 _ _, le-leb _ _ c.if1.true)) (λ c. rw (at_least-bits w64 _ _, lt-leb _ _ c.if1.false)))
+pub at_least8_spec : {M : Type 1} → statement M
+at_least8_spec = tie.close (tie.spec (λ c. rw (at_least-bits w64 _ _, le-leb _ _ c.if-low-bits.true)) (λ c. rw (at_least-bits w64 _ _, lt-leb _ _ c.if-low-bits.false)))

@@ -12,6 +12,6 @@ returns c =
     let start = third.before.before.before in
     c.word.ensures ∙ ap little_number (sym (part-four start.args.image.now start.args.at start.requires))
 
-pub little4-spec : {M : Type 1} → statement M
-little4-spec =
+pub little4_spec : {M : Type 1} → statement M
+little4_spec =
     tie.close (tie.spec (λ c. search rules) (λ c. search rules) (λ c. search rules) (λ c. search rules) (λ c. search rules) (λ c. search rules) (λ c. search rules) (λ c κs. search rules) returns)

@@ -10,6 +10,6 @@ returns c =
     let start = c.before.before.before in
     rw (little-halves start.args.image.now start.args.at start.requires) (omega arith)
 
-pub little8-spec : {M : Type 1} → statement M
-little8-spec =
+pub little8_spec : {M : Type 1} → statement M
+little8_spec =
     tie.close (tie.spec (λ c κs. search rules) (λ c. search rules) (λ c. search rules) (λ c κs. search rules) (λ c. search rules) (λ c. search rules) (λ c. search rules) returns)

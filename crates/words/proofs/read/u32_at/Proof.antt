@@ -9,7 +9,7 @@ returns : tie.Need-returns
 returns c =
     let known = c.before.before in
     let s = known.before in
-    bits-turned s.args.order w32 s.args.image.now s.args.at (λ i. (known.shared-slice-known.given i).fits) s.requires c.before.little4.ensures c.turned4.ensures
+    bits-turned s.args.order w32 s.args.image.now s.args.at (λ i. (known.shared_slice_known-1.given i).fits) s.requires c.before.little4.ensures c.turned4.ensures
 
-pub u32-at-spec : {M : Type 1} → statement M
-u32-at-spec = tie.close (tie.spec (λ c κs. search rules) (λ c κs. search rules) returns)
+pub u32_at_spec : {M : Type 1} → statement M
+u32_at_spec = tie.close (tie.spec (λ c κs. search rules) (λ c κs. search rules) returns)

@@ -4,7 +4,7 @@ use Rattle.words.proofs.Signed.{cast, turned}
 use Rattle.words.proofs.sign.bits64.Statement.{statement}
 use Rattle.words.proofs.sign.bits64.Tie as tie
 
-pub bits64-spec : {M : Type 1} → statement M
-bits64-spec =
-    tie.close (tie.spec (λ c. (cast w64 _ c.before.ranges.value c.if1.true).fits) (λ c. (turned w64 _ c.before.ranges.value c.if1.false).turns) (λ c. (turned w64 _ c.before.ranges.value c.if1.false).fits)
-    (λ c. (turned w64 _ c.before.ranges.value c.if1.false).small) (λ c. (cast w64 _ c.before.ranges.value c.if1.true).same) (λ c. (turned w64 _ c.before.ranges.value c.if1.false).same))
+pub bits64_spec : {M : Type 1} → statement M
+bits64_spec =
+    tie.close (tie.spec (λ c. (cast w64 _ c.before.ranges.value c.if-value-ge0.true).fits) (λ c. (turned w64 _ c.before.ranges.value c.if-value-ge0.false).turns) (λ c. (turned w64 _ c.before.ranges.value c.if-value-ge0.false).fits)
+    (λ c. (turned w64 _ c.before.ranges.value c.if-value-ge0.false).small) (λ c. (cast w64 _ c.before.ranges.value c.if-value-ge0.true).same) (λ c. (turned w64 _ c.before.ranges.value c.if-value-ge0.false).same))

@@ -5,6 +5,6 @@ use borrow.Author.Rules.{rules}
 use Rattle.words.proofs.sign.signed32.Statement.{statement}
 use Rattle.words.proofs.sign.signed32.Tie as tie
 
-pub signed32-spec : {M : Type 1} → statement M
-signed32-spec =
-    tie.close (tie.spec (λ c. search rules) (λ c. search rules) (λ c. search rules) (λ c. fall-fits w32 c.before.args.bits c.before.ranges.bits.fits c.if1.false) (λ c. search rules) (λ c. fall w32 c.before.args.bits c.before.ranges.bits.fits c.if1.false))
+pub signed32_spec : {M : Type 1} → statement M
+signed32_spec =
+    tie.close (tie.spec (λ c. search rules) (λ c. search rules) (λ c. search rules) (λ c. fall-fits w32 c.before.args.bits c.before.ranges.bits.fits c.if-bits-lt2147483648.false) (λ c. search rules) (λ c. fall w32 c.before.args.bits c.before.ranges.bits.fits c.if-bits-lt2147483648.false))

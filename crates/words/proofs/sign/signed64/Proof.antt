@@ -5,6 +5,6 @@ use borrow.Author.Rules.{rules}
 use Rattle.words.proofs.sign.signed64.Statement.{statement}
 use Rattle.words.proofs.sign.signed64.Tie as tie
 
-pub signed64-spec : {M : Type 1} → statement M
-signed64-spec =
-    tie.close (tie.spec (λ c. search rules) (λ c. search rules) (λ c. search rules) (λ c. fall-fits w64 c.before.args.bits c.before.ranges.bits.fits c.if1.false) (λ c. search rules) (λ c. fall w64 c.before.args.bits c.before.ranges.bits.fits c.if1.false))
+pub signed64_spec : {M : Type 1} → statement M
+signed64_spec =
+    tie.close (tie.spec (λ c. search rules) (λ c. search rules) (λ c. search rules) (λ c. fall-fits w64 c.before.args.bits c.before.ranges.bits.fits c.if-bits-lt9223372036854775808.false) (λ c. search rules) (λ c. fall w64 c.before.args.bits c.before.ranges.bits.fits c.if-bits-lt9223372036854775808.false))

@@ -7,7 +7,7 @@ use Rattle.words.proofs.write.put_i32.Tie as tie
 returns : tie.Need-returns
 returns c =
     let b = c.before.before.before in
-    rw (b.bits32.ensures, to_z-of_z b.before.before.before.ranges.value) at c.before.before.put-u32.ensures
+    rw (b.bits32.ensures, to_z-of_z b.before.before.before.ranges.value) at c.before.before.put_u32.ensures
 
-pub put-i32-spec : {M : Type 1} → statement M
-put-i32-spec = tie.close (tie.spec (λ c κs. search rules) (λ c κs. search rules) (λ c. search rules) returns)
+pub put_i32_spec : {M : Type 1} → statement M
+put_i32_spec = tie.close (tie.spec (λ c κs. search rules) (λ c κs. search rules) (λ c. search rules) returns)

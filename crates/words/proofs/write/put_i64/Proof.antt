@@ -7,7 +7,7 @@ use Rattle.words.proofs.write.put_i64.Tie as tie
 returns : tie.Need-returns
 returns c =
     let b = c.before.before.before in
-    rw (b.bits64.ensures, to_z-of_z b.before.before.before.ranges.value) at c.before.before.put-u64.ensures
+    rw (b.bits64.ensures, to_z-of_z b.before.before.before.ranges.value) at c.before.before.put_u64.ensures
 
-pub put-i64-spec : {M : Type 1} → statement M
-put-i64-spec = tie.close (tie.spec (λ c κs. search rules) (λ c κs. search rules) (λ c. search rules) returns)
+pub put_i64_spec : {M : Type 1} → statement M
+put_i64_spec = tie.close (tie.spec (λ c κs. search rules) (λ c κs. search rules) (λ c. search rules) returns)

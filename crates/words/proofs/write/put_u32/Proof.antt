@@ -12,8 +12,8 @@ unfolding little_numeral
 returns c =
     let t = c.before.before.before.before.before in
     let a = t.before.before.args in
-    c.before.before.put.ensures ∙ ap (splice a.image.now a.at) (numeral-turned a.order 4 a.bits t.turned4.ensures)
+    c.before.before.put.ensures ∙ ap (splice a.image.now a.at) (numeral-turned a.order 4 a.bits t.turned4-first.ensures)
 
-pub put-u32-spec : {M : Type 1} → statement M
-put-u32-spec =
+pub put_u32_spec : {M : Type 1} → statement M
+put_u32_spec =
     tie.close (tie.spec (λ c κs. search rules) (λ c. search rules) (λ c. search rules) (λ c. search rules) (λ c. search rules) (λ c. search rules) (λ c κs. search rules) (λ c. search rules) returns)

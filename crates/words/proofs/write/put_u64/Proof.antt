@@ -12,8 +12,8 @@ unfolding little_numeral
 returns c =
     let t = c.before.before.before.before.before in
     let a = t.before.before.args in
-    c.before.before.put.ensures ∙ ap (splice a.image.now a.at) (numeral-turned a.order 8 a.bits t.turned8.ensures)
+    c.before.before.put.ensures ∙ ap (splice a.image.now a.at) (numeral-turned a.order 8 a.bits t.turned8-first.ensures)
 
-pub put-u64-spec : {M : Type 1} → statement M
-put-u64-spec =
+pub put_u64_spec : {M : Type 1} → statement M
+put_u64_spec =
     tie.close (tie.spec (λ c κs. search rules) (λ c. search rules) (λ c. search rules) (λ c. search rules) (λ c. search rules) (λ c. search rules) (λ c. search rules) (λ c. search rules) (λ c. search rules) (λ c. search rules) (λ c κs. search rules) (λ c. search rules) returns)
