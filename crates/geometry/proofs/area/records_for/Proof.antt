@@ -9,5 +9,5 @@ returns : tie.Need-returns
 unfolding records_for
 returns c = refl
 
-pub records-for-spec : {M : Type 1} → statement M
-records-for-spec = tie.close (tie.spec (λ c. search rules) (λ c. search rules) (λ c. search rules) returns)
+pub records_for_spec : {M : Type 1} → statement M
+records_for_spec = tie.close (tie.spec (λ c. search rules) (λ c. search rules) (λ c. search rules) returns)

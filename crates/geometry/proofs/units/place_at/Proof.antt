@@ -11,5 +11,5 @@ returns : tie.Need-returns
 unfolding place_of
 returns c = refl
 
-pub place-at-spec : {M : Type 1} → statement M
-place-at-spec = tie.close (tie.spec (λ c. search rules) (λ c. omega (arith, div-le_self c.args.position c.args.reclen)) (λ c. search rules) (λ c. omega (arith, mod-lt c.args.position {m = c.args.reclen} c.requires.0)) returns)
+pub place_at_spec : {M : Type 1} → statement M
+place_at_spec = tie.close (tie.spec (λ c. search rules) (λ c. omega (arith, div-le_self c.args.position c.args.reclen)) (λ c. search rules) (λ c. omega (arith, mod-lt c.args.position {m = c.args.reclen} c.requires.0)) returns)

@@ -16,5 +16,5 @@ returns : tie.Need-returns
 unfolding position_of
 returns c = refl
 
-pub position-spec : {M : Type 1} → statement M
-position-spec = tie.close (tie.spec (λ c. search rules) (λ c. omega (arith, bound c.before)) (λ c. search rules) (λ c. omega (arith, bound c.before.before)) returns)
+pub position_spec : {M : Type 1} → statement M
+position_spec = tie.close (tie.spec (λ c. search rules) (λ c. omega (arith, bound c.before)) (λ c. search rules) (λ c. omega (arith, bound c.before.before)) returns)

@@ -9,7 +9,7 @@ use borrow.Author.Rules.{rules}
 use Rattle.geometry.proofs.units.position_within.Statement.{statement}
 use Rattle.geometry.proofs.units.position_within.Tie as tie
 
-returns : tie.Need-returns
+returns : tie.Need-returns-then-limit-record
 unfolding position_of
 returns c =
     let a = c.before.before.args in
@@ -17,5 +17,5 @@ returns c =
     omega (arith, mul-le-mul_left (a.«record».0 - 1) c.before.before.requires.0) in
     sym (lt-leb (position_of a.reclen a.«record» a.word) a.limit past)
 
-pub position-within-spec : {M : Type 1} → statement M
-position-within-spec = tie.close (tie.spec (λ c. search rules) returns (λ c κs. search rules) (λ c. rw c.position.ensures))
+pub position_within_spec : {M : Type 1} → statement M
+position_within_spec = tie.close (tie.spec (λ c. search rules) returns (λ c κs. search rules) (λ c. rw c.position.ensures))

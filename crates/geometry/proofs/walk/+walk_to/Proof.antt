@@ -27,16 +27,16 @@ pub +walk-to-spec : {M : Type 1} → statement M
   walk-on-reads.Learnt,
 ) (and 0 walk-to-kinds.ps (is 0 walk-to-kinds.ps μ-walk-to t) walk-to.Pre) walk-to.Post
     (λ c κs. c.before.before.requires.1.2.lex1-high)
-    (λ c. let e : c.before.before.before.args.extension.0 ≡ 1 = omega arith in rw e c.walk-begun.ensures)
+    (λ c. let e : c.before.before.before.args.extension.0 ≡ 1 = omega arith in rw e c.walk_begun.ensures)
     (λ c. omega arith)
     (λ c κs.
     let p = c.before.before.before.requires.1.2 in
     (omega arith, (omega arith, omega arith, growing-fewer _ _ _ (omega arith) p)))
     (λ c κs.
     let s = c.before.before.before.before in
-    let at = walk-stands _ c.walk-to.ensures in
+    let at = walk-stands _ c.walk_to.ensures in
     record { stands = at.1; counted = omega (arith, at.0); few = omega (arith, at.0); growing = rw at.0 s.requires.1.2 })
     (λ c.
     let s = c.before.before.before.before.before in
-    let e : c.before.walk-to.result.extension.0 + 1 ≡ s.args.extension.0 = omega (arith, (walk-stands _ c.before.walk-to.ensures).0) in
-    c.walk-on.ensures ∙ ap (walk_of s.args.growth) e)
+    let e : c.before.walk_to.result.extension.0 + 1 ≡ s.args.extension.0 = omega (arith, (walk-stands _ c.before.walk_to.ensures).0) in
+    c.walk_on.ensures ∙ ap (walk_of s.args.growth) e)

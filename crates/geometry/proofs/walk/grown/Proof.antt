@@ -21,8 +21,8 @@ small c =
     let digit : c.args.parts % 10 ≤ 10 = omega arith in
     (mul-le-mul tens c.requires.0, mul-le-mul digit c.requires.0)
 
-pub grown-spec : {M : Type 1} → statement M
-grown-spec =
+pub grown_spec : {M : Type 1} → statement M
+grown_spec =
     tie.close
     (tie.spec
     (λ c. omega (arith, small c.before))

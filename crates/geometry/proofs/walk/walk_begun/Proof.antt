@@ -11,5 +11,5 @@ returns : tie.Need-returns
 unfolding parts_of
 returns c = rw (total-none c.before.args.growth, mul-div_cancel c.before.args.growth.lex1 {n = 10 ^ 14} (omega arith))
 
-pub walk-begun-spec : {M : Type 1} → statement M
-walk-begun-spec = tie.close (tie.spec (λ c. omega (arith, c.before.requires)) returns)
+pub walk_begun_spec : {M : Type 1} → statement M
+walk_begun_spec = tie.close (tie.spec (λ c. omega (arith, c.before.requires)) returns)

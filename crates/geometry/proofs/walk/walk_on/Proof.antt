@@ -37,11 +37,11 @@ returns : tie.Need-returns
 returns c =
     let a = c.before.before.before.args in
     let p = c.before.before.before.requires in
-    let next = c.before.before.grown.ensures ∙ ap (grown_of a.growth) (parts a.growth a.walk p) ∙ sym (parts_next a.growth a.walk.extension.0 p.counted) in
+    let next = c.before.before.grown-parts.ensures ∙ ap (grown_of a.growth) (parts a.growth a.walk p) ∙ sym (parts_next a.growth a.walk.extension.0 p.counted) in
     ap₂ {C = Walk} (λ (b n : ℕ). record { extension = record { 0 = a.walk.extension.0 + 1 }; before = b; capacity = n / 10 ^ 14; parts = n }) (together a.growth a.walk p) next
 
-pub walk-on-spec : {M : Type 1} → statement M
-walk-on-spec =
+pub walk_on_spec : {M : Type 1} → statement M
+walk_on_spec =
     tie.close
     (tie.spec
     (λ c κs. (c.requires.growing.gex-high, (few _ _ c.requires).0))
