@@ -2,7 +2,7 @@
 use mathlib.Core.Path.{◌≡◌, sym, ap, ◌∙◌}
 use borrow.Author.Rules.{rules}
 use Rattle.descriptor.specs.declared.numbers.DescriptorNumbers.{DescriptorNumbers}
-use Rattle.descriptor.specs.declared.validating.Validated.TheVariants.{Numbers, Refused}
+use Rattle.descriptor.specs.declared.validating.Validated.TheVariants.{Numbers}
 use Rattle.descriptor.specs.declared.validating.Validation.{Validation}
 use Rattle.descriptor.specs.Rules.{file_refusal}
 use Rattle.descriptor.proofs.Answered.{file-passed, answer-numbers, refuses-by}
