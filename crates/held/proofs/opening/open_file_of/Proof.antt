@@ -11,32 +11,32 @@ use Rattle.held.proofs.opening.open_file_of.Statement.{statement}
 use Rattle.held.proofs.opening.open_file_of.Tie as tie
 
 -- the place behind the call that validates, and what the numbers that it gave show
-abbrev called : tie.After-case → tie.After-admit
+abbrev called : tie.In-Numbers-2 → tie.After-admit-case
 called c = c.before.before.before
 
-shown : (c : tie.After-case) → let a = called c in Admits a.before.before.before.args.file.now c.case.given.0.0 a.admit.last.1.0
-shown c = let a = (called c).admit in case-told _ a.result a.ensures.0 a.ensures.1 c.case.given.1
+shown : (c : tie.In-Numbers-2) → let a = called c in Admits a.before.before.before.args.file.now c.case-1.given.0.0 a.admit-case.new.totals
+shown c = let a = (called c).admit-case in case-told _ a.result a.ensures.0 a.ensures.1 c.case-1.given.1
 
-returns : tie.Need-returns
+returns : tie.Need-returns-in_default
 unfolding open_file_in
 returns c =
     let t = c.before.before in
     let a = t.before.before.before in
-    let n = c.before.refusal-of.result in
-    let left = case-left _ a.admit.result a.admit.ensures.0 c.before.refusal-of.ensures t.enum_told.given.1 in
-    c.no-open-file.ensures ∙ sym (record-by a.before.before.before.args.file.now (no_validation n) (Refused n) (sym left.validation) refl)
+    let n = c.before.refusal_of.result in
+    let left = case-left _ a.admit-case.result a.admit-case.ensures.0 c.before.refusal_of.ensures t.enum_told-1.given.1 in
+    c.no_open_file.ensures ∙ sym (record-by a.before.before.before.args.file.now (no_validation n) (Refused n) (sym left.validation) refl)
 
-returns-2 : tie.Need-returns-2
+returns-2 : tie.Need-returns
 unfolding open_file_in
 returns-2 c =
     let k = c.before.before in
-    let d = k.case.given.0.0 in
+    let d = k.before.case-1.given.0.0 in
     let p = shown k in
-    (λ i. record { refusal = 0; file = record { numbers = d; addresses = c.addresses-of.ensures i; totals = p.table i } })
+    (λ i. record { refusal = 0; file = record { numbers = d; addresses = c.addresses_of-addresses.ensures i; totals = p.table i } })
     ∙ sym (record-by (called k).before.before.before.args.file.now _ (Numbers d) (sym p.validation) refl)
 
-pub open-file-of-spec : {M : Type 1} → statement M
-open-file-of-spec =
+pub open_file_of_spec : {M : Type 1} → statement M
+open_file_of_spec =
     tie.close
     (tie.spec
     (λ c. search rules)
