@@ -8,11 +8,11 @@ use Rattle.entry.specs.Answers.{open_case}
 use Rattle.entry.proofs.answers.open_case.Statement.{statement}
 use Rattle.entry.proofs.answers.open_case.Tie as tie
 
-returns : tie.Need-returns
+returns : tie.Need-returns-in-Numbers
 returns c =
-    let n = c.before.answer.given.0 in
-    let version : to_z w32 (of_z w32 n.1.0) ≡ n.1.0 = to_z-of_z (sfits_of c.known-told.given.1.0.1) in
-    rw version (sym (ap open_case c.before.answer.given.1))
+    let n = c.before.answer-1.given.0 in
+    let version : to_z w32 (of_z w32 n.1.0) ≡ n.1.0 = to_z-of_z (sfits_of c.known_told-1.given.1.0.1) in
+    rw version (sym (ap open_case c.before.answer-1.given.1))
 
-pub open-case-spec : {M : Type 1} → statement M
-open-case-spec = tie.close (tie.spec (λ c. search rules) (λ c. search rules) returns (λ c. sym (ap open_case c.before.answer2.given.1)))
+pub open_case_spec : {M : Type 1} → statement M
+open_case_spec = tie.close (tie.spec (λ c. search rules) (λ c. search rules) returns (λ c. sym (ap open_case c.before.answer-in-Refused-1.given.1)))

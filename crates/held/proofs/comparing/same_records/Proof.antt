@@ -20,17 +20,17 @@ abbrev turn : tie.After-struct_known-in-loop-passed-1 invariant-loop decreases-l
 turn c = c.before.before.before.before.before
 
 -- the numbers at the place that the turn looks at
-here : (c : tie.After-struct_known-in-loop-passed-1 invariant-loop decreases-loop) → let l = turn c in get_or (record_numbers l.before.args.t1) l.loop-passed.passed 0 ≡ (get_or l.before.args.t1 l.loop-passed.passed (record { 0 = 0 })).0
-here c = number_at (turn c).before.args.t1 (turn c).loop-passed.passed
+here : (c : tie.After-struct_known-in-loop-passed-1 invariant-loop decreases-loop) → let l = turn c in get_or (record_numbers l.before.args.one) l.loop-passed.passed 0 ≡ (get_or l.before.args.one l.loop-passed.passed (record { 0 = 0 })).0
+here c = number_at (turn c).before.args.one (turn c).loop-passed.passed
 
-there : (c : tie.After-struct_known-in-loop-passed-1 invariant-loop decreases-loop) → let l = turn c in get_or (record_numbers l.before.args.t2) l.loop-passed.passed 0 ≡ (get_or l.before.args.t2 l.loop-passed.passed (record { 0 = 0 })).0
-there c = number_at (turn c).before.args.t2 (turn c).loop-passed.passed
+there : (c : tie.After-struct_known-in-loop-passed-1 invariant-loop decreases-loop) → let l = turn c in get_or (record_numbers l.before.args.other) l.loop-passed.passed 0 ≡ (get_or l.before.args.other l.loop-passed.passed (record { 0 = 0 })).0
+there c = number_at (turn c).before.args.other (turn c).loop-passed.passed
 
 returns-2 : tie.Need-returns invariant-loop decreases-loop
 returns-2 c =
     let a = c.before.before.args in
-    let one = length-numbers a.t1 in
-    let other = length-numbers a.t2 in
+    let one = length-numbers a.one in
+    let other = length-numbers a.other in
     sym (agreeing-all c.before.loop-passed.invariant (omega (arith, one, other)) (omega (arith, one)))
 
 pub same_records_spec : {M : Type 1} → statement M

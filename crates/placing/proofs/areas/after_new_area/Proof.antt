@@ -30,7 +30,7 @@ capacity-requires c κs =
 area-records-requires : tie.Need-area_records-requires
 area-records-requires c κs = let s = c.before.before.before.before in (rw (own c.before) s.requires.4, s.requires.0.lind-high, omega (arith, s.requires.0.reclen-low), s.requires.0.reclen-high)
 
-add-t7 : tie.Need-overflow_add-d
+add-t7 : tie.Need-overflow_add-result
 unfolding after_new_area
 add-t7 c =
     let p = c.before in

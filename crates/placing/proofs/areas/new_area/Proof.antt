@@ -12,7 +12,7 @@ use Rattle.placing.proofs.areas.new_area.Tie as tie
 records : (c : tie.After-records_for) → let d = c.before.before.args.d in c.records_for.result ≡ records_for (free_of d) d.reclen
 records c = rw c.before.free_position.ensures at c.records_for.ensures
 
-add-t4 : tie.Need-overflow-add-t4
+add-t4 : tie.Need-overflow_add-result
 unfolding new_area
 add-t4 c = let s = c.before.before in omega (arith, records c, new-small s.args.d s.requires.0 s.requires.2)
 
