@@ -28,7 +28,7 @@ stands c =
 first : (c : tie.After-aex_in-first) → let s = begin c.before.before.before in c.aex_in-first.result ≡ aex_of (addresses_of s.args.file.now s.args.d.nex) c.before.slot_in_use-slot.result.extension.0
 first c =
     let s = begin c.before.before.before in
-    let u = stands c.before in
+    let u = stands c.before.before.before in
     let k = c.before.slot_in_use-slot.result.extension.0 in
     let q : k - 1 + 1 ≡ k = omega (arith, u.held.counted) in
     c.aex_in-first.ensures ∙ (rw q at (sym (aex-stored s.args.file.now s.args.d.nex (k - 1) (omega (arith, u.held.counted, u.used)) s.requires.0.admitted.settled.nex-high)))
@@ -59,11 +59,11 @@ slot_position_spec =
     let a = s.requires.0.admitted in
     (s.requires.0.order, u.held.counted, omega (arith, u.used, a.settled.nex-high), omega (arith, u.used, a.settled.nex-room, a.lent.first)))
     (λ c κs.
-    let s = begin c.before in
-    let u = stands c.before in
+    let s = begin c.before.before.before in
+    let u = stands c.before.before.before in
     rw (first c) (omega (arith, area-first (length s.args.file.now) s.args.d _ s.requires.0.admitted _ u.held.counted u.used, s.requires.0.admitted.settled.reclen-high)))
     (λ c.
-    let s = begin c.before.before.before in
+    let s = begin c.before.before.before.before.before in
     let a = s.requires.0.admitted in
     omega (arith, sum c, slot-inside (length s.args.file.now) s.args.d _ a s.args.number s.requires.2 s.requires.3, a.room, a.lent.high))
     sum)

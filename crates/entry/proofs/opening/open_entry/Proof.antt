@@ -20,7 +20,7 @@ shown : (c : tie.In-Numbers-2) → let a = called c in Admits a.before.before.be
 shown c = let a = (called c).admit-case in case-told _ a.result a.ensures.0 a.ensures.1 c.case-1.given.1
 
 abbrev admitted-at : tie.After-enter-entered → tie.In-Numbers-2
-admitted-at c = c.before.before.before
+admitted-at c = c.before
 
 -- the answer is made of what was entered
 answer : (c : tie.After-enter-entered) → let a = (called (admitted-at c)).before.before.before.args in open_of a.file.now a.number ≡ opened_as a.file.now c.enter-entered.result

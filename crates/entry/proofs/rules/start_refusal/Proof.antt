@@ -60,5 +60,5 @@ start_refusal_spec =
     let p = past-2 c.before.before.before in
     let (settled, free, small) = p.given.requires in
     omega (arith, c.free_position-free.ensures, place-low p.given.args.d p.given.args.place.«record».0 p.given.args.place.word.0 settled p.rows.0 p.rows.1.0))
-    (λ c. stop (past-2 c.before.before.before) (broken (test c.before) c.if-not-position_within.true))
-    (λ c. stop (next (past-2 c.before.before.before) (holds (test c.before) c.if-not-position_within.false)) refl))
+    (λ c. stop (past-2 c.before.before.before.before.before) (broken (test c.before) c.if-not-position_within.true))
+    (λ c. stop (next (past-2 c.before.before.before.before.before) (holds (test c.before) c.if-not-position_within.false)) refl))

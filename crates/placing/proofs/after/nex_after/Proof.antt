@@ -9,7 +9,7 @@ returns : tie.Need-returns-then-extends
 unfolding nex_after
 returns c = rw (sym c.before.before.requires.1 ∙ c.before.if-extends.true)
 
-returns-2 : tie.Need-returns-then-extends
+returns-2 : tie.Need-returns
 unfolding nex_after
 returns-2 c = rw (sym c.before.requires.1 ∙ c.if-extends.false)
 

@@ -28,7 +28,7 @@ position-requires c κs =
 returns : tie.Need-returns-then-extends
 returns c = rw (start-extended c.before.before.before.args.d (extended c.before.before)) (rw c.before.after_new_area.ensures at c.position.ensures)
 
-returns-2 : tie.Need-returns-then-extends
+returns-2 : tie.Need-returns
 returns-2 c = let s = c.before.before in c.free_position.ensures ∙ sym (start-free s.args.d (sym s.requires.3 ∙ c.before.if-extends.false))
 
 pub entry_start_spec : {M : Type 1} → statement M

@@ -46,7 +46,7 @@ returns-2 c =
     let far : s.args.bytes / 4 < entry_start s.args.d + s.args.nword = omega (arith, end p, c.before.if-bytes-end.true) in
     c.no_place-then-bytes-end.ensures ∙ sym (place-outside s.args.d s.args.bytes s.args.nword (passed p.before) far)
 
-returns-3 : tie.Need-returns-then-refusal-ne0
+returns-3 : tie.Need-returns
 returns-3 c =
     let p = c.before in
     let s = p.before.before.before.before in

@@ -68,7 +68,7 @@ returns-3 c =
     let d = (began (roomy p)).args.d in
     last p false (lt-leb (capacity_of (growth_in d) (d.nex + 1)) 16384 (omega (arith, entries p, c.if-entries-gt-CAPACITY_MAX.true)))
 
-returns-4 : tie.Need-returns-then-not-extends
+returns-4 : tie.Need-returns
 returns-4 c =
     let p = c.before in
     let d = (began (roomy p)).args.d in
