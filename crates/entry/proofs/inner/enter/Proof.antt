@@ -30,7 +30,7 @@ enter_spec =
     (λ c κs. search rules)
     (λ c.
     let e = c.before.before.before.before in
-    let a = (begin e).args in
+    let a = (begin e.before).args in
     let past = lt-leb a.number.0 (entries_before a.d.xnext) (omega (arith, c.before.before.before.entries_before.ensures, c.before.if-entries_before-number.true)) in
     c.refused-then-entries_before-number.ensures ∙ sym (entered-refused _ _ _ _ 12 (entry-number _ _ _ _ (rw (le-leb 1 _ e.if-number-lt1.false, past))) refl))
     (λ c κs. let s = begin (low c) in let u = in_use c in (s.requires.0, s.requires.1, u.0, u.1))

@@ -91,7 +91,7 @@ returns-4 c =
     let k = c.before.before in
     let r = read (headed k) in
     let b = begun r in
-    let version : to_z w32 (of_z w32 r.head_at-head.result.version) ≡ r.head_at-head.result.version = to_z-of_z (sfits_of c.struct_told-1.given.0.1) in
+    let version : to_z w32 (of_z w32 r.head_at-head.result.version) ≡ r.head_at-head.result.version = to_z-of_z {w = w32} (sfits_of c.struct_told-1.given.0.1) in
     let a = (given b).args in
     rw version (of-read
     (λ s x. record { refusal = 0; place = (placed b).place_stored-place.result; start = s; version = x.version; nsec = x.nsec; nword = x.nword; array = record { address = x.adata; words = x.ldata } } ≡ entered_of a.file.now a.d (addresses_of a.file.now a.d.nex) a.number)
@@ -112,10 +112,10 @@ enter_at_spec =
     let t = c.before.before in
     c.refused.ensures ∙ sym (refused-start _ _ _ _ (numbered (begin t.before)) t.before.place_stored-place.result (place t.before) _
     (sym t.start_refusal-outside.ensures) (ne_eqb _ _ c.before.if-outside-ne0.true)))
-    (λ c κs. omega (arith, begins c, (given c).requires.0.admitted.settled.reclen-high))
+    (λ c κs. omega (arith, begins c.before.before, (given c.before.before).requires.0.admitted.settled.reclen-high))
     (λ c κs.
-    let p = (given c.before).requires.0 in
-    (p.order, omega (arith, c.position-start.ensures, (begins c.before).ends, free-within _ _ _ p.admitted)))
+    let p = (given c.before.before.before.before).requires.0 in
+    (p.order, omega (arith, c.position-start.ensures, (begins c.before.before.before.before).ends, free-within _ _ _ p.admitted)))
     (λ c κs.
     let b = begun c in
     let p = (given b).requires.0 in
@@ -128,10 +128,10 @@ enter_at_spec =
     (none b) (sym (head h)) (ne_eqb _ _ c.before.if-broken-ne0.true)))
     (λ c κs.
     let e = c.before in
-    let r = read e in
+    let r = read e.before in
     let a = (given (begun r)).args in
     of-read (λ s x. Described a.d.order a.file.now s x.nsec × (x.nword < 2 ^ 32)) a.file.now (start (begun r)) r.before.position-start.ensures r.head_at-head.ensures
-    (described-in (given (begun r)).requires.0.order (heads e).described, (heads e).nword-small))
+    (described-in (given (begun r)).requires.0.order (heads e.before).described, (heads e.before).nword-small))
     (λ c κs. search rules)
     (λ c. let k = c.before.before in c.refused-then-content-ne0.ensures ∙ sym (entered-refused _ _ _ _ _ (whole k) (ne_eqb _ _ c.before.if-content-ne0.true)))
     returns-4)
