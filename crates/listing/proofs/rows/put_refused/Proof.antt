@@ -13,10 +13,10 @@ returns : tie.Need-returns
 unfolding refused_of
 returns c =
     let f = c.before.before in
-    laid_on _ _ (text " refused ") _ (refl, f.before.before.before.before.put.ensures) f.put-field.ensures
+    laid_on _ _ (text " refused ") _ (refl, f.before.before.before.before.put.ensures) f.put_field.ensures
 
-pub put-refused-spec : {M : Type 1} → statement M
-put-refused-spec =
+pub put_refused_spec : {M : Type 1} → statement M
+put_refused_spec =
     tie.close
     (tie.spec
     (λ c. search rules)

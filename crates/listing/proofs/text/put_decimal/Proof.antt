@@ -9,18 +9,18 @@ use Rattle.listing.proofs.text.put_decimal.Statement.{statement}
 use Rattle.listing.proofs.text.put_decimal.Tie as tie
 
 -- what was written to the array are the number's digits
-shown : (c : tie.After-decimal) → take c.decimal.result c.decimal.new.1.0 ≡ decimal_of c.before.before.before.args.n
+shown : (c : tie.After-decimal-count) → take c.decimal-count.result c.decimal-count.new.out ≡ decimal_of c.before.before.before.args.n
 shown c =
-    let e = c.decimal.ensures.1 in
-    e.1 ∙ decimal-digits c.decimal.result c.before.before.before.args.n (omega arith) e.0
+    let e = c.decimal-count.ensures.1 in
+    e.1 ∙ decimal-digits c.decimal-count.result c.before.before.before.args.n (omega arith) e.0
 
 returns : tie.Need-returns
 returns c =
     let e = shown c.before.before.before.before.before in
     (omega (arith, ap length e), rw e at c.before.before.put.ensures)
 
-pub put-decimal-spec : {M : Type 1} → statement M
-put-decimal-spec =
+pub put_decimal_spec : {M : Type 1} → statement M
+put_decimal_spec =
     tie.close
     (tie.spec
     (λ c κs. search rules) (λ c. search rules) (λ c. search rules)
