@@ -30,7 +30,7 @@ index_words_place_spec =
     (λ c. search rules)
     (λ c κs. let p = shown c.before in (p.admitted, p.table))
     (λ c.
-    let k = c.before.before.before in
-    let s = (called k) in
+    let k = c.before.before in
+    let s = (called k).before.before.before in
     let a = s.args in
     whole_numbers _ (λ addresses d. index_part a.file.now d addresses a.number) (shown k).validation c.index_part.ensures))

@@ -1,6 +1,7 @@
 -- `handing::parts::section_place` meets its contract, by the validation's case. Assumes nothing.
 use borrow.Author.Rules.{rules}
 use mir.Facts.{to_z-of_z}
+use mir.Syntax.{w32}
 use Rattle.descriptor.proofs.Answered.{Admits, case-told, case-left}
 use Rattle.handing.specs.Parts.{section_part}
 use Rattle.handing.proofs.Handing.{readable, section-by, whole-refused, whole_numbers}
@@ -36,4 +37,4 @@ section_place_spec =
     let k = c.before.before.before.before in
     let s = (called k).before.before.before in
     let a = s.args in
-    whole_numbers _ (λ addresses d. section_part a.file.now d addresses a.number a.identifier) (shown k).validation (section-by _ _ _ _ _ x.ensures (rw (to_z-of_z s.fits.identifier) at c.named_part.ensures))))
+    whole_numbers _ (λ addresses d. section_part a.file.now d addresses a.number a.identifier) (shown k).validation (section-by _ _ _ _ _ x.ensures (rw (to_z-of_z {w = w32} s.ranges.identifier) at c.named_part.ensures))))

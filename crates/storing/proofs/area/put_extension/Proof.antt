@@ -24,7 +24,7 @@ word c = let d = (began (nex-put c)).args.d in let q : d.nex + 1 - 1 ≡ d.nex =
 put-field8-requires : tie.Need-put_field8-requires
 put-field8-requires c κs =
     let p = c.before in
-    omega (arith, ap (λ (w : WordNumber). w.0) (word p.before), (nex-put p.before).put_field4.auto.file.0, (began (nex-put p)).requires)
+    omega (arith, ap (λ (w : WordNumber). w.0) (word p.before), (nex-put p.before).put_field4.auto.file, (began (nex-put p.before)).requires)
 
 returns : tie.Need-returns
 returns c =

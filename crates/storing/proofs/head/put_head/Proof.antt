@@ -33,25 +33,25 @@ abbrev began : tie.After-put_u32 → tie.Start
 began c = (at_code (at-version (at-nsec c)).before.before.before).before.before
 
 -- the file once the words 1 to 3 are written
-three : (c : tie.After-put_u32) → let a = (began c).args in c.put_u32.new.order ≡ writes a.file.now (take 3 (head_writes a.order a.start a.head))
+three : (c : tie.After-put_u32) → let a = (began c).args in c.put_u32.new.image ≡ writes a.file.now (take 3 (head_writes a.order a.start a.head))
 three c =
     let h = (at-nsec c).before.struct_told-1.given.0.1 in
     cc (to_z-of_z {w = w32} {z = (began c).args.head.version} (record { sfits = h }))
 
 -- each word keeps the file's length
-three-long : (c : tie.After-put_u32) → length c.put_u32.new.order ≡ length (began c).args.file.now
+three-long : (c : tie.After-put_u32) → length c.put_u32.new.image ≡ length (began c).args.file.now
 three-long c =
     let v = at-nsec c in
-    c.put_u32.auto.1.0 ∙ v.put_i32.kept.1.0 ∙ (at-version v).before.before.before.put.kept.0
+    c.put_u32.auto.image ∙ v.put_i32.auto.image ∙ (at-version v).before.before.before.put.auto.image
 
-nword-long : (c : tie.After-put_word8) → length c.put_word8.new.order ≡ length (began (at-nword c)).args.file.now
-nword-long c = c.put_word8.auto.1.0 ∙ three-long (at-nword c)
+nword-long : (c : tie.After-put_word8) → length c.put_word8.new.file ≡ length (began (at-nword c)).args.file.now
+nword-long c = c.put_word8.auto.file ∙ three-long (at-nword c)
 
-adata-long : (c : tie.After-put_word8-2) → length c.put_word8-2.new.order ≡ length (began (at-nword (at-adata c))).args.file.now
-adata-long c = c.put_word8-2.auto.1.0 ∙ nword-long (at-adata c)
+adata-long : (c : tie.After-put_word8-2) → length c.put_word8-2.new.file ≡ length (began (at-nword (at-adata c))).args.file.now
+adata-long c = c.put_word8-2.auto.file ∙ nword-long (at-adata c)
 
-ldata-long : (c : tie.After-put_word8-3) → length c.put_word8-3.new.order ≡ length (began (at-nword (at-adata (at-ldata c)))).args.file.now
-ldata-long c = c.put_word8-3.auto.1.0 ∙ adata-long (at-ldata c)
+ldata-long : (c : tie.After-put_word8-3) → length c.put_word8-3.new.file ≡ length (began (at-nword (at-adata (at-ldata c)))).args.file.now
+ldata-long c = c.put_word8-3.auto.file ∙ adata-long (at-ldata c)
 
 put-word8-requires : tie.Need-put_word8-requires
 put-word8-requires c κs = let p = c.before.before.before in let h = (began p).requires in omega (arith, three-long p)
@@ -66,7 +66,7 @@ put-word8-requires-4 : tie.Need-put_word8-requires-4
 put-word8-requires-4 c κs = let p = c.before.before.before in let h = (began (at-nword (at-adata (at-ldata p)))).requires in omega (arith, ldata-long p)
 
 same_length : tie.Need-shape_of-file
-same_length c = let p = c.before.before in p.put_word8-4.auto.file.0 ∙ ldata-long p.before.before.before.before
+same_length c = let p = c.before.before in p.put_word8-4.auto.file ∙ ldata-long p.before.before.before.before
 
 returns : tie.Need-returns
 returns c =

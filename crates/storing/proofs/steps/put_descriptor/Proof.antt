@@ -18,7 +18,7 @@ put-tables-requires : tie.Need-put_tables-requires
 put-tables-requires c κs =
     let h = c.before.before.before in
     let p = h.before.before.before.requires in
-    (p.low, p.few, p.pairs, omega (arith, p.inside, h.put_head.auto.file.0), p.counted, p.small)
+    (p.low, p.few, p.pairs, omega (arith, p.inside, h.put_head.auto.file), p.counted, p.small)
 
 returns : tie.Need-returns
 returns c =

@@ -17,7 +17,7 @@ use Rattle.storing.proofs.storing.store.Tie as tie
 
 -- the places on the way, each from the one behind it
 abbrev began : tie.After-new_slot-slot → tie.Start
-began c = let p : tie.After-new-slot-arg = c.before in p.before.before.before.before.before.before
+began c = c.before.before.before.before.before.before
 
 abbrev slot-found : tie.After-put_descriptor → tie.After-new_slot-slot
 slot-found c = c.before.before.before
@@ -43,13 +43,13 @@ handed s = handed_in s.args.head.version s.args.index.now s.args.ids.now s.args.
 
 -- each step keeps the file's length
 after-content : (c : tie.After-put_content) → length c.put_content.new.file ≡ length (began (slot-found (descriptor-put c))).args.file.now
-after-content c = c.put_content.auto.0 ∙ (descriptor-put c).put_descriptor.auto.1.0
+after-content c = c.put_content.auto.file ∙ (descriptor-put c).put_descriptor.auto.file
 
-after-slot : (c : tie.After-put_slot) → length c.put_slot.new.order ≡ length (first c).args.file.now
-after-slot c = c.put_slot.auto.1.0 ∙ after-content (content-put c.before)
+after-slot : (c : tie.After-put_slot) → length c.put_slot.new.file ≡ length (first c).args.file.now
+after-slot c = c.put_slot.auto.file ∙ after-content (content-put c.before)
 
 after-rest : (c : tie.After-put_rest) → length c.put_rest.new.file ≡ length (first (slot-put c)).args.file.now
-after-rest c = c.put_rest.auto.0 ∙ after-slot (slot-put c)
+after-rest c = c.put_rest.auto.file ∙ after-slot (slot-put c)
 
 new-slot-requires : tie.Need-new_slot-slot-requires
 new-slot-requires c κs =
@@ -58,7 +58,7 @@ new-slot-requires c κs =
     (record { admitted = q.accepted.admitted; order = q.order }, s.requires.1, extends-placed _ _ _ _ _ q, q.accepted.extensible)
 
 put-descriptor-requires : tie.Need-put_descriptor-requires
-put-descriptor-requires c κs = describing _ _ _ _ _ (began c.before).requires.0
+put-descriptor-requires c κs = describing _ _ _ _ _ (began c.before.before).requires.0
 
 first-content-requires : tie.Need-first_content-requires
 first-content-requires c κs =
@@ -69,11 +69,11 @@ put-content-requires : tie.Need-put_content-requires
 put-content-requires c κs =
     let p = c.before.before.before.before in
     let inside = content-inside _ _ _ _ _ (began (slot-found p)).requires.0 c.first_content.result c.first_content.ensures in
-    (inside.0, inside.1, rw p.put_descriptor.auto.1.0 inside.2)
+    (inside.0, inside.1, rw p.put_descriptor.auto.file inside.2)
 
 place-at-requires : tie.Need-place_at-requires
 place-at-requires c κs =
-    let q = (began (slot-found (descriptor-put c.before.before.before))).requires.0 in
+    let q = (began (slot-found (descriptor-put c.before.before.before.before))).requires.0 in
     omega (arith, start_small _ _ _ _ _ q, q.accepted.admitted.settled.reclen-low, q.accepted.admitted.settled.reclen-high)
 
 put-slot-requires : tie.Need-put_slot-requires

@@ -48,8 +48,8 @@ loop-again c =
     let p = put-at c in
     let l = (turn_at p).before.loop-done in
     let a = (began (turn_at p)).args in (
-      passed-next (address-table a.order) a.file.now (offset_of a.position) a.first.0 a.lengths.now l.done l.file p.put_u64.new.order p.before.byte_offset.result
-          (omega arith) l.invariant.0 (omega arith) (omega arith) (p.put_u64.ensures ∙ ap (λ (n : ℕ). splice l.file-1 p.before.byte_offset.result (numeral a.order 8 n)) l.invariant.1),
+      passed-next (address-table a.order) a.file.now (offset_of a.position) a.first.0 a.lengths.now l.done l.file p.put_u64.new.image p.before.byte_offset.result
+          (omega arith) l.invariant.0 (omega arith) (omega arith) (p.put_u64.ensures ∙ ap (λ (n : ℕ). splice l.file p.before.byte_offset.result (numeral a.order 8 n)) l.invariant.1),
       omega (arith, words c, sum-next a.lengths.now l.done (omega arith)),
     )
 

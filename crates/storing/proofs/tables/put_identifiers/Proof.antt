@@ -23,7 +23,7 @@ loop-again c =
     let l = t.loop-done in
     let a = t.before.before.args in
     let read = read_back integer4 a.ids.now l.done p.before.before.before.identifier-1.given in
-    passed-next (integer-table a.order integer4) a.file.now (offset_of a.position) 0 a.ids.now l.done l.file p.put_i32.new.order p.before.byte_offset.result
+    passed-next (integer-table a.order integer4) a.file.now (offset_of a.position) 0 a.ids.now l.done l.file p.put_i32.new.image p.before.byte_offset.result
     (omega arith) l.invariant (omega arith) (omega arith) (rw read at p.put_i32.ensures)
 
 returns : tie.Need-returns invariant-loop decreases-loop

@@ -18,11 +18,11 @@ decreases-loop order file₀ position lengths done₀ file done = length lengths
 
 -- the first length of a turn is written
 one : (c : tie.After-put_length invariant-loop decreases-loop) → let l = c.before.before.before in let a = l.before.before.args in
-    Passed (integer-table a.order integer8) a.file.now (offset_of a.position) 0 a.lengths.now (l.loop-done.done + 1) c.put_length.new.order
+    Passed (integer-table a.order integer8) a.file.now (offset_of a.position) 0 a.lengths.now (l.loop-done.done + 1) c.put_length.new.file
 one c =
     let l = c.before.before.before in
     let a = l.before.before.args in
-    passed-next (integer-table a.order integer8) a.file-1.now (offset_of a.position) 0 a.lengths.now l.loop-done.done l.loop-done.file c.put_length.new.0 _
+    passed-next (integer-table a.order integer8) a.file.now (offset_of a.position) 0 a.lengths.now l.loop-done.done l.loop-done.file c.put_length.new.file _
     (omega arith) l.loop-done.invariant (omega arith) refl c.put_length.ensures
 
 loop-again : tie.Need-loop-done-preserved invariant-loop decreases-loop
@@ -33,7 +33,7 @@ loop-again c =
     let a = l.before.before.args in
     let two : l.loop-done.done + 2 ≡ l.loop-done.done + 1 + 1 = omega arith in
     rw two
-    (passed-next (integer-table a.order integer8) a.file.now (offset_of a.position) 0 a.lengths.now (l.loop-done.done + 1) f.put_length.new.order p.put_length-in-loop-done.new.0 _
+    (passed-next (integer-table a.order integer8) a.file.now (offset_of a.position) 0 a.lengths.now (l.loop-done.done + 1) f.put_length.new.file p.put_length-in-loop-done.new.file _
     (omega arith) (one f) (omega arith) refl p.put_length-in-loop-done.ensures)
 
 returns : tie.Need-returns-then-done-lengths invariant-loop decreases-loop
@@ -42,7 +42,7 @@ returns c =
     let l = p.before.before.before.before in
     let a = l.before.before.args in
     passed-all (integer-table a.order integer8) _ _ 0 a.lengths.now (l.loop-done.done + 1) _ (omega arith)
-    (passed-next (integer-table a.order integer8) a.file.now (offset_of a.position) 0 a.lengths.now l.loop-done.done l.loop-done.file p.put_length-then-done-lengths.new.order _
+    (passed-next (integer-table a.order integer8) a.file.now (offset_of a.position) 0 a.lengths.now l.loop-done.done l.loop-done.file p.put_length-then-done-lengths.new.file _
     (omega arith) l.loop-done.invariant (omega arith) refl p.put_length-then-done-lengths.ensures)
 
 pub put_lengths_spec : {M : Type 1} → statement M

@@ -53,7 +53,7 @@ put-addresses-requires c κs =
     let s = first (second q) in (
       omega (arith, at-addresses p),
       omega arith,
-      omega (arith, at-addresses p, q.put_lengths.auto.file.0, (second q).put_identifiers.auto.1.0),
+      omega (arith, at-addresses p, q.put_lengths.auto.file, (second q).put_identifiers.auto.file),
       s.requires.4,
       omega (arith, ap (λ (a : EntryAddress). a.0) c.first_content.ensures, s.requires.5),
     )

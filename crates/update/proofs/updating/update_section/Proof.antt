@@ -37,7 +37,7 @@ placed : (c : tie.After-section-part) → let s = begin (called (found c)) in c.
 placed c =
     let s = begin (called (found c)) in
     let a = s.args in
-    whole_numbers _ (λ addresses d. section_part a.file.now d addresses a.number a.identifier) (shown (found c)).validation (rw (to_z-of_z s.fits.identifier) at c.section-part.ensures)
+    whole_numbers _ (λ addresses d. section_part a.file.now d addresses a.number a.identifier) (shown (found c)).validation (rw (to_z-of_z {w = w32} s.ranges.identifier) at c.section-part.ensures)
 
 returns : tie.Need-returns
 returns c =
