@@ -11,8 +11,8 @@ use Rattle.listing.proofs.text.put_decimal.Tie as tie
 -- what was written to the array are the number's digits
 shown : (c : tie.After-decimal-count) → take c.decimal-count.result c.decimal-count.new.out ≡ decimal_of c.before.before.before.args.n
 shown c =
-    let e = c.decimal-count.ensures.1 in
-    e.1 ∙ decimal-digits c.decimal-count.result c.before.before.before.args.n (omega arith) e.0
+    let e = c.decimal-count.ensures in
+    e.digits ∙ decimal-digits c.decimal-count.result c.before.before.before.args.n (omega arith) e.len
 
 returns : tie.Need-returns
 returns c =

@@ -22,5 +22,5 @@ returns c =
     let copied : first.new.0 ≡ splice file s.args.start content = first.ensures in
     zeroed ∙ ap (λ (f : List ℕ). splice f behind rest) copied ∙ splice-adjacent file s.args.start content behind rest refl
 
-pub rewrite-spec : {M : Type 1} → statement M
-rewrite-spec = tie.close (tie.spec (λ c κs. search rules) (λ c. search rules) (λ c. search rules) (λ c κs. search rules) (λ c. search rules) returns)
+pub rewrite_spec : {M : Type 1} → statement M
+rewrite_spec = tie.close (tie.spec (λ c κs. search rules) (λ c. search rules) (λ c. search rules) (λ c κs. search rules) (λ c. search rules) returns)
