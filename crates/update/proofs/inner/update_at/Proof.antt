@@ -17,7 +17,7 @@ returns : tie.Need-returns-then-place-ne0
 returns c =
     let a = (begin c.before).args in
     let d = c.if-place-ne0.true in
-    refused a.place a.content.now a.file-1.now (sym (place-first a.place a.content.now d)) d
+    refused a.place a.content.now a.file.now (sym (place-first a.place a.content.now d)) d
 
 -- where the place is given, the answer is that of the content
 tests : (c : tie.After-content_refusal-refusal) → let a = (begin c.before.before.before).args in c.content_refusal-refusal.result ≡ update_at a.place a.content.now
@@ -29,7 +29,7 @@ tests c =
 returns-2 : tie.Need-returns-then-refusal-ne0
 returns-2 c =
     let a = (begin c.before.before.before.before).args in
-    refused a.place a.content.now a.file-1.now (tests c.before) c.if-refusal-ne0.true
+    refused a.place a.content.now a.file.now (tests c.before) c.if-refusal-ne0.true
 
 rewrite-requires : tie.Need-rewrite-requires
 rewrite-requires c κs =
@@ -45,8 +45,8 @@ returns-3 c =
     let passed = wrote.before.before in
     let tested = passed.before in
     let a = (begin tested.before.before.before).args in
-    let rewritten : wrote.rewrite.new.0 ≡ splice a.file-1.now a.place.start (padded a.content.now (space_of a.place)) = wrote.rewrite.ensures in
-    let done = not-refused a.place a.content.now a.file-1.now (sym (tests tested) ∙ passed.if-refusal-ne0.false) in
+    let rewritten : wrote.rewrite.new.file ≡ splice a.file.now a.place.start (padded a.content.now (space_of a.place)) = wrote.rewrite.ensures in
+    let done = not-refused a.place a.content.now a.file.now (sym (tests tested) ∙ passed.if-refusal-ne0.false) in
     (done.0, rewritten ∙ done.1)
 
 pub update_at_spec : {M : Type 1} → statement M
