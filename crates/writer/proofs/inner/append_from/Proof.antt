@@ -4,6 +4,7 @@ use native.Mathlib.Omega.{arith}
 use borrow.Author.Rules.{rules}
 use lib.ListN.{length}
 use mir.Facts.{to_z-of_z}
+use mir.Syntax.{w32}
 use Rattle.image.specs.Writes.{writes}
 use Rattle.descriptor.specs.FirstRecord.{addresses_of}
 use Rattle.descriptor.proofs.Admitting.{free-small}
@@ -50,7 +51,7 @@ fits c = let s = began c.before in fitting s.args.d (handed s) (passed c)
 headed : (c : tie.After-head_of-head) → let s = from-head c in c.head_of-head.result ≡ head_of (handed s) s.args.d.xnext
 headed c =
     let s = from-head c in
-    (rw (to_z-of_z s.fits.version) at c.head_of-head.ensures) ∙ head-counted s.args.d (handed s) (fits c.before) s.args.d.xnext
+    (rw (to_z-of_z {w = w32} s.ranges.version) at c.head_of-head.ensures) ∙ head-counted s.args.d (handed s) (fits c.before.before) s.args.d.xnext
 
 nword : (c : tie.After-head_of-head) → c.head_of-head.result.nword ≡ nword_in (handed (from-head c))
 nword c = let s = from-head c in ap (λ (r : Head). r.nword) (headed c) ∙ head-nword (handed s) s.args.d.xnext
@@ -89,7 +90,7 @@ returns-2 c =
     let p = c.before.before.before in
     let s = from_place p in
     let e = found p in
-    let r = refused-place s.args.file.now s.args.d (handed s) (passed p.before.before) (λ q. c.before.if-placed-ne0.true (e ∙ q)) in
+    let r = refused-place s.args.file.now s.args.d (handed s) (passed p.before.before.before) (λ q. c.before.if-placed-ne0.true (e ∙ q)) in
     (c.refused_from-then-placed-ne0.ensures ∙ ap refused_from e ∙ r.0, r.1)
 
 -- there is no refusal
@@ -124,11 +125,11 @@ returns-3 c =
     let a = s.args in
     let h = handed s in
     let done = accepted-from a.file.now a.d h (none e) in
-    let table = addresses_of a.file-1.now a.d.nex in (
+    let table = addresses_of a.file.now a.d.nex in (
       done.0,
       r.store.ensures
-          ∙ (λ i. writes a.file-1.now (store_writes a.d table (stands e i) (headed p.before i) (versioned h (headed p.before i))))
-          ∙ made-appended _ a.d table h (admits e) a.file-1.now
+          ∙ (λ i. writes a.file.now (store_writes a.d table (stands e i) (headed p.before i) (versioned h (headed p.before i))))
+          ∙ made-appended _ a.d table h (admits e) a.file.now
           ∙ done.1,
     )
 

@@ -14,6 +14,7 @@ use Rattle.storing.specs.Handed.{distinct}
 use Rattle.storing.proofs.Lengths.{read_back}
 use Rattle.writer.proofs.HandedIn.{distinct-run, NoneAbove, above-absent, none-next, none-higher}
 use Rattle.writer.proofs.rules.are_distinct.Statement.{statement}
+use Rattle.writer.proofs.rules.are_distinct.Lts.{then-highest-identifier, else-highest-identifier+else-not-is_absent}
 use Rattle.writer.proofs.rules.are_distinct.Tie as tie
 
 abbrev invariant-loop : tie.invariant-loop-passed
@@ -28,7 +29,7 @@ loop-holds c = (record { few = omega arith; so_far = refl }, record { below = λ
 
 -- the highest before a turn, and the identifier of the turn
 abbrev highest : tie.After-identifier-1 invariant-loop decreases-loop → ℤ
-highest c = signed_of integer4 c.before.before.loop-passed.highest
+highest c = signed_of integer4 c.before.before.loop-passed.highest-bits
 
 abbrev identifier : tie.After-identifier-1 invariant-loop decreases-loop → ℤ
 identifier c = let l = c.before.before in get_or l.before.args.ids.now l.loop-passed.passed (pos 0)
@@ -53,17 +54,17 @@ loop-again c =
     let ids = d.before.before.before.args.ids.now in
     let some = d.before.loop-passed-test.true in
     let below = NoneAbove ids (l.passed + 1) in
-    ⊎_elim
-    (λ w.
-    let above = compared d w.0.taken in (
-      passing-next (distinct-run ids) l.invariant.0 some {t = true} (sym (above-absent l.invariant.1 _ above)) refl,
-      subst below (sym (ap (signed_of integer4) w.1 ∙ read d)) (none-higher l.invariant.1 above),
-    ))
-    (λ w. (
-      passing-next (distinct-run ids) l.invariant.0 some (rw (read d) at w.1.ensures) w.2.left,
-      subst below (sym (ap (signed_of integer4) w.3)) (none-next l.invariant.1 (compared d w.0.left)),
-    ))
-    c.if-highest-identifier.branch
+    elim c.if-highest-identifier.branch [
+      then-highest-identifier w ↦
+        let above = compared d w.if-highest-identifier.true in (
+          passing-next (distinct-run ids) l.invariant.0 some {t = true} (sym (above-absent l.invariant.1 _ above)) refl,
+          subst below (sym (ap (signed_of integer4) w.highest-is-bits ∙ read d)) (none-higher l.invariant.1 above),
+        )
+      | else-highest-identifier+else-not-is_absent w ↦ (
+          passing-next (distinct-run ids) l.invariant.0 some (rw (read d) at w.is_absent.ensures) w.if-not-is_absent.false,
+          subst below (sym (ap (signed_of integer4) w.highest-is-bits)) (none-next l.invariant.1 (compared d w.if-highest-identifier.false)),
+        )
+    ]
 
 pub are_distinct_spec : {M : Type 1} → statement M
 are_distinct_spec =
