@@ -12,21 +12,21 @@ use Rattle.words.specs.Word.{integer4}
 use Rattle.witness.proofs.read_identifiers.Statement.{statement}
 use Rattle.witness.proofs.read_identifiers.Tie as tie
 
-abbrev invariant-loop : tie.invariant-loop
+abbrev invariant-loop : tie.invariant-loop-done
 invariant-loop ids done₀ done = (done ≤ length ids) × ((i : ℕ) → i < done → SFits integer4 (get_or ids i (pos 0)))
 
-abbrev decreases-loop : tie.decreases-loop
+abbrev decreases-loop : tie.decreases-loop-done
 decreases-loop ids done₀ done = length ids - done
 
-loop-again : tie.Need-loop-preserved invariant-loop decreases-loop
+loop-again : tie.Need-loop-done-preserved invariant-loop decreases-loop
 loop-again c =
-    let l = c.before.before.loop in
+    let l = c.before.before.loop-done in
     let ids = c.before.before.before.args.ids.now in
-    let here : SFits integer4 (get_or ids l.done (pos 0)) = sfits_of c.-identifier.given in
+    let here : SFits integer4 (get_or ids l.done (pos 0)) = sfits_of c._identifier-1.given in
     (omega arith, λ i h. elim (dec_le l.done i) [ yes m ↦ (let q : l.done ≡ i = omega arith in subst (λ (k : ℕ). SFits integer4 (get_or ids k (pos 0))) q here) | no m ↦ l.invariant.1 i (lt_of_not-le m) ])
 
-pub read-identifiers-spec : {M : Type 1} → statement M
-read-identifiers-spec =
+pub read_identifiers_spec : {M : Type 1} → statement M
+read_identifiers_spec =
     tie.close
     (tie.spec
     invariant-loop
@@ -37,4 +37,4 @@ read-identifiers-spec =
     (λ c. search rules)
     (λ c. search rules)
     loop-again
-    (λ c i h. c.before.loop.invariant.1 i (omega arith)))
+    (λ c i h. c.before.loop-done.invariant.1 i (omega arith)))
