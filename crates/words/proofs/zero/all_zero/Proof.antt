@@ -4,6 +4,7 @@ use mathlib.Core.Bool.{◌&&◌}
 use Prim.Native.Nat.{ℕ, ◌+◌, ◌*◌, ◌-◌, ◌/◌, ◌%◌, ◌≤◌}
 use native.Mathlib.Omega.{arith}
 use lib.Dec.{eqb}
+use Rattle.std.proofs.lemmas.Bool.Decides.{nat_tests}
 use Rattle.image.specs.Image.{part, all_zero}
 use Rattle.words.proofs.Zeros.{or-zero, seen_next, halves-zero}
 use Rattle.words.proofs.zero.all_zero.Statement.{statement}
@@ -36,7 +37,8 @@ returns c =
     let half = (n + 4) / 8 * 4 in
     let all : l.loop-done.done ≡ half = omega arith in
     let second = a.to - half in
-    or-zero l.loop-done.first_bits l.loop-done.second_bits
+    grind (arith, nat_tests)
+    ∙ or-zero l.loop-done.first_bits l.loop-done.second_bits
     ∙ ap₂ ◌&&◌ (inv.2 ∙ ap (λ (k : ℕ). all_zero (part a.image.now a.from k)) all) (inv.3 ∙ ap (λ (k : ℕ). all_zero (part a.image.now second k)) all)
     ∙ halves-zero a.image.now a.from n half second (omega arith) (omega arith) (omega arith)
 
