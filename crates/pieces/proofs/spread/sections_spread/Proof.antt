@@ -1,7 +1,7 @@
 -- `pieces::spread::sections_spread` meets its contract. The loop's invariant: the sections passed have a word at least and lie within the entry, and the order and the end kept are theirs. Assumes nothing.
 use mathlib.Core.Path.{◌≡◌, refl, sym, ◌∙◌}
 use mathlib.Core.Bool.{true, false}
-use Prim.Native.Nat.{◌+◌, ◌-◌}
+use Prim.Native.Nat.{◌+◌, ◌-◌, ◌≤◌, ◌<◌}
 use native.Mathlib.Omega.{arith}
 use borrow.Author.Rules.{rules}
 use Rattle.words.specs.Word.{integer8, signed_of}
@@ -13,7 +13,6 @@ use Rattle.pieces.specs.Spread.{highest_end, in_order, spread_of}
 use Rattle.pieces.proofs.Pieces.{Placed, section_within, within-run, within_none, section-placed}
 use Rattle.pieces.proofs.Spreads.{end_none, end-next, order-none, order-broken, order-kept}
 use Rattle.pieces.proofs.spread.sections_spread.Statement.{statement}
-use Rattle.pieces.proofs.spread.sections_spread.Lts.{then-section-end, else-section-end}
 use Rattle.pieces.proofs.spread.sections_spread.Tie as tie
 
 abbrev invariant-loop : tie.invariant-loop-passed
@@ -50,18 +49,7 @@ placed c =
     let l = s.before.before.loop-passed in
     rw s.section_at-section.ensures (section-placed _ _ _ _ l.passed (l.passed + 1) (omega arith) (more c).so_far)
 
--- the order kept is that of one section more
-order : (c : tie.Joined-section-end invariant-loop decreases-loop) → let l = c.before.before.before.before.before.before.before.before in
-    let a = l.before.before.args in
-    c.if-section-end.ordered ≡ in_order a.file.now a.start a.nsec (l.loop-passed.passed + 1)
-order c =
-    let s = c.before.before.before.before.before.before in
-    let l = s.before.before.loop-passed in
-    elim c.if-section-end.branch [
-      then-section-end w ↦ w.ordered-is ∙ order-broken _ _ _ _ l.invariant.1 s.section_at-section.ensures (omega arith)
-      | else-section-end w ↦ w.ordered-is ∙ (l.invariant.2 ∙ order-kept _ _ _ _ l.invariant.1 s.section_at-section.ensures (omega arith))
-    ]
-
+-- the order kept after a turn follows at its goal from what either branch leaves: no step is named there after the test
 pub sections_spread_spec : {M : Type 1} → statement M
 unfolding spread_of
 sections_spread_spec =
@@ -93,7 +81,11 @@ sections_spread_spec =
     let e = j.before.before in
     let s = e.before.before.before.before in
     let l = s.before.before.loop-passed in
-    (more e, end-next _ _ _ _ l.invariant.1 s.section_at-section.ensures c.higher-end.ensures, order j))
+    let a = s.before.before.before.before.args in
+    let x = s.section_at-section.result.address.0 in
+    let broken : x < l.end → false ≡ in_order a.file.now a.start a.nsec (l.passed + 1) = λ h. order-broken _ _ _ _ l.invariant.1 s.section_at-section.ensures h in
+    let kept : l.end ≤ x → in_order a.file.now a.start a.nsec l.passed ≡ in_order a.file.now a.start a.nsec (l.passed + 1) = λ h. order-kept _ _ _ _ l.invariant.1 s.section_at-section.ensures h in
+    (more e, end-next _ _ _ _ l.invariant.1 s.section_at-section.ensures c.higher-end.ensures, grind (arith, broken, kept)))
     (λ c.
     let l = c.before.loop-passed in
     let e : l.passed ≡ c.before.before.before.args.nsec = omega arith in
