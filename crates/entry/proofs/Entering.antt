@@ -7,7 +7,7 @@ use mathlib.Core.Path.{◌≡◌, refl, sym, ap, ◌∙◌}
 use mathlib.Core.Bool.{true, false, cond}
 use mathlib.Core.List.{List, ◌++◌}
 use native.Mathlib.Omega.{arith}
-use borrow.Author.Tests.{leb-true, eqb-true, ne_eqb}
+use borrow.Author.Tests.{leb-true, le-leb, lt-leb, eqb-true, ne_eqb}
 use lib.Dec.{eqb}
 use lib.ListN.{length}
 use mir.Syntax.{w32, w64}
@@ -191,6 +191,13 @@ module _ (file : List ℕ) (d : DescriptorNumbers) (addresses : List RecordNumbe
   pub entry-number : refusal_in (number_rules d e) ≡ 12 → entry_refusal file d addresses e ≡ 12
   unfolding entry_refusal
   entry-number h = refusal-append (number_rules d e) (after_number file d e here) (omega arith) ∙ rw h
+
+  -- as is one below 1, and one past the file's
+  pub number_low : e.0 < 1 → entered_of file d addresses e ≡ not_entered 12
+  number_low low = entered-refused 12 (entry-number (rw (lt-leb 1 e.0 low))) refl
+
+  pub number_high : 1 ≤ e.0 → entries_before d.xnext < e.0 → entered_of file d addresses e ≡ not_entered 12
+  number_high some past = entered-refused 12 (entry-number (rw (le-leb 1 e.0 some, lt-leb e.0 (entries_before d.xnext) past))) refl
 
   rest : refusal_in (number_rules d e) ≡ 0
       → let start = start_of d here in

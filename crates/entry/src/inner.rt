@@ -77,6 +77,7 @@ pub fn enter_at(file: &[u8], d: DescriptorNumbers, slot: u64, number: EntryNumbe
 
 // The numbers of an entry, by its number and the totals of the extensions in use, or the first rule of 12 to 19 that it
 // breaks.
+#[tactic(auto, using(crate::proofs::Entering::number_low, crate::proofs::Entering::number_high))]
 pub fn enter(file: &[u8], d: DescriptorNumbers, totals: &[u64], number: EntryNumber) -> Entered
     requires { AdmittedIn file.now d (addresses_of file.now d.nex) × TotalsOf d totals.now }
     ensures { Answers (entered_of file.now d (addresses_of file.now d.nex) number) result }
