@@ -36,15 +36,7 @@ loop-again c =
     (passed-next (integer-table a.order integer8) a.file.now (offset_of a.position) 0 a.lengths.now (l.loop-done.done + 1) f.put_length.new.file p.put_length-in-loop-done.new.file _
     (omega arith) (one f) (omega arith) refl p.put_length-in-loop-done.ensures)
 
-returns : tie.Need-returns-then-done-lengths invariant-loop decreases-loop
-returns c =
-    let p = c.before.before in
-    let l = p.before.before.before.before in
-    let a = l.before.before.args in
-    passed-all (integer-table a.order integer8) _ _ 0 a.lengths.now (l.loop-done.done + 1) _ (omega arith)
-    (passed-next (integer-table a.order integer8) a.file.now (offset_of a.position) 0 a.lengths.now l.loop-done.done l.loop-done.file p.put_length-then-done-lengths.new.file _
-    (omega arith) l.loop-done.invariant (omega arith) refl p.put_length-then-done-lengths.ensures)
-
+-- (what follows the loop stands where it is asked, and names neither the test nor the call behind it)
 pub put_lengths_spec : {M : Type 1} → statement M
 put_lengths_spec =
     tie.close
@@ -61,6 +53,12 @@ put_lengths_spec =
     loop-again
     (λ c κs. search rules)
     (λ c. search rules)
-    returns
+    (λ c.
+    let p = c.before.before in
+    let l = p.before.before.before.before in
+    let a = l.before.before.args in
+    passed-all (integer-table a.order integer8) _ _ 0 a.lengths.now (l.loop-done.done + 1) _ (omega arith)
+    (passed-next (integer-table a.order integer8) a.file.now (offset_of a.position) 0 a.lengths.now l.loop-done.done l.loop-done.file _ _ (omega arith) l.loop-done.invariant (omega arith)
+    refl (search rules)))
     (λ c. search rules)
-    (λ c. passed-all (integer-table c.before.before.before.before.args.order integer8) _ _ 0 c.before.before.before.before.args.lengths.now _ _ c.if-done-lengths.false c.before.before.loop-done.invariant))
+    (λ c. passed-all (integer-table c.before.before.before.before.args.order integer8) _ _ 0 c.before.before.before.before.args.lengths.now _ _ (omega arith) c.before.before.loop-done.invariant))
