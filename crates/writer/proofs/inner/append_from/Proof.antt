@@ -85,51 +85,37 @@ place-requires c κs =
     let a = (from-head c).requires.0.admitted in
     (a.settled, a.free, free-small _ _ _ a, a.counted, (from-head c).requires.1, omega (arith, nword c, f.few, section-words _ _ f, c.before.before.before.before, c.before.before.before))
 
-returns-2 : tie.Need-returns-then-placed-ne0
-returns-2 c =
-    let p = c.before.before.before in
-    let s = from_place p in
-    let e = found p in
-    let r = refused-place s.args.file.now s.args.d (handed s) (passed p.before.before.before) (λ q. c.before.if-placed-ne0.true (e ∙ q)) in
-    (c.refused_from-then-placed-ne0.ensures ∙ ap refused_from e ∙ r.0, r.1)
+-- where the place has no refusal, there is none (the test of it is read where it is asked, and its name is nowhere)
+none : (c : tie.After-place-placed) → c.place-placed.result.refusal ≡ 0 → let s = from_place c in append_refusal (length s.args.file.now) s.args.d (handed s) ≡ 0
+none c z = let s = from_place c in refused_none s.args.file.now s.args.d (handed s) (passed c.before.before.before) (sym (found c) ∙ z)
 
--- there is no refusal
-none : (c : tie.Else-placed-ne0) → let s = from_place c.before.before in append_refusal (length s.args.file.now) s.args.d (handed s) ≡ 0
-none c =
-    let p = c.before.before in
-    let s = from_place p in
-    refused_none s.args.file.now s.args.d (handed s) (passed p.before.before.before) (sym (found p) ∙ c.if-placed-ne0.false)
+admits : (c : tie.After-place-placed) → c.place-placed.result.refusal ≡ 0 → let s = from_place c in Accepted (length s.args.file.now) s.args.d (addresses_of s.args.file.now s.args.d.nex) (handed s)
+admits c z = let s = from_place c in accepted s.args.d (handed s) (length s.args.file.now) _ s.requires.0.admitted (none c z)
 
-admits : (c : tie.Else-placed-ne0) → let s = from_place c.before.before in Accepted (length s.args.file.now) s.args.d (addresses_of s.args.file.now s.args.d.nex) (handed s)
-admits c = let s = from_place c.before.before in accepted s.args.d (handed s) (length s.args.file.now) _ s.requires.0.admitted (none c)
-
-stands : (c : tie.Else-placed-ne0) → let s = from_place c.before.before in c.before.before.place-placed.result ≡ placed_at s.args.d
-stands c =
-    let p = c.before.before in
-    let s = from_place p in
-    given p ∙ place-stands s.args.d _ _ (sym (found p) ∙ c.if-placed-ne0.false)
+stands : (c : tie.After-place-placed) → c.place-placed.result.refusal ≡ 0 → c.place-placed.result ≡ placed_at (from_place c).args.d
+stands c z = given c ∙ place-stands (from_place c).args.d _ _ (sym (found c) ∙ z)
 
 store-requires : tie.Need-store-requires
 store-requires c κs =
-    let e = c.before in
-    let p = e.before.before in
+    let p = c.before.before.before in
     let s = from_place p in
-    (storing _ s.args.d _ _ (handed s) s.requires.0.order (admits e) (stands e) (headed p.before), s.requires.1)
+    let z : p.place-placed.result.refusal ≡ 0 = omega arith in
+    (storing _ s.args.d _ _ (handed s) s.requires.0.order (admits p z) (stands p z) (headed p.before), s.requires.1)
 
-returns-3 : tie.Need-returns
-returns-3 c =
+returns-2 : tie.Need-returns
+returns-2 c =
     let r = c.before.before.before in
-    let e = r.before.before in
-    let p = e.before.before in
+    let p = r.before.before.before.before in
     let s = from_place p in
+    let z : p.place-placed.result.refusal ≡ 0 = omega arith in
     let a = s.args in
     let h = handed s in
-    let done = accepted-from a.file.now a.d h (none e) in
+    let done = accepted-from a.file.now a.d h (none p z) in
     let table = addresses_of a.file.now a.d.nex in (
       done.0,
       r.store.ensures
-          ∙ (λ i. writes a.file.now (store_writes a.d table (stands e i) (headed p.before i) (versioned h (headed p.before i))))
-          ∙ made-appended _ a.d table h (admits e) a.file.now
+          ∙ (λ i. writes a.file.now (store_writes a.d table (stands p z i) (headed p.before i) (versioned h (headed p.before i))))
+          ∙ made-appended _ a.d table h (admits p z) a.file.now
           ∙ done.1,
     )
 
@@ -143,7 +129,12 @@ append_from_spec =
     head-of-requires
     place-requires
     (λ c κs. search rules)
-    returns-2
+    (λ c.
+    let p = c.before.before.before in
+    let s = from_place p in
+    let e = found p in
+    let r = refused-place s.args.file.now s.args.d (handed s) (passed p.before.before.before) (λ q. omega arith) in
+    (cc (ap refused_from e, r.0), r.1))
     store-requires
     (λ c. search rules)
-    returns-3)
+    returns-2)

@@ -55,15 +55,15 @@ loop-again c =
     let some = d.before.loop-passed-test.true in
     let below = NoneAbove ids (l.passed + 1) in
     elim c.if-highest-identifier.branch [
-      then-highest-identifier w ↦
-        let above = compared d w.if-highest-identifier.true in (
-          passing-next (distinct-run ids) l.invariant.0 some {t = true} (sym (above-absent l.invariant.1 _ above)) refl,
-          subst below (sym (ap (signed_of integer4) w.highest-is-bits ∙ read d)) (none-higher l.invariant.1 above),
-        )
+      | then-highest-identifier w ↦
+          let above = compared d w.if-highest-identifier.true in (
+            passing-next (distinct-run ids) l.invariant.0 some {t = true} (sym (above-absent l.invariant.1 _ above)) refl,
+            subst below (sym (ap (signed_of integer4) w.highest-is-bits ∙ read d)) (none-higher l.invariant.1 above),
+          )
       | else-highest-identifier+else-not-is_absent w ↦ (
-          passing-next (distinct-run ids) l.invariant.0 some (rw (read d) at w.is_absent.ensures) w.if-not-is_absent.false,
-          subst below (sym (ap (signed_of integer4) w.highest-is-bits)) (none-next l.invariant.1 (compared d w.if-highest-identifier.false)),
-        )
+        passing-next (distinct-run ids) l.invariant.0 some (rw (read d) at w.is_absent.ensures) w.if-not-is_absent.false,
+        subst below (sym (ap (signed_of integer4) w.highest-is-bits)) (none-next l.invariant.1 (compared d w.if-highest-identifier.false)),
+      )
     ]
 
 pub are_distinct_spec : {M : Type 1} → statement M

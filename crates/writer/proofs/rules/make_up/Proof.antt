@@ -1,11 +1,12 @@
 -- `writer::rules::make_up` meets its contract. The loop's invariant: each length passed is 1 or more, and what is left and the lengths passed make up the bytes. Assumes nothing.
 use mathlib.Core.Path.{◌≡◌, refl, sym, ap, ◌∙◌}
-use mathlib.Core.Bool.{true, false, not, ◌&&◌, and-false}
+use mathlib.Core.Bool.{Bool, true, false, not, ◌&&◌, and-false}
 use Prim.Native.Nat.{◌+◌, ◌*◌, ◌-◌, ◌/◌}
 use native.Mathlib.Omega.{arith}
 use borrow.Author.Rules.{rules}
 use borrow.Author.Tests.{ne_eqb}
 use lib.Dec.{eqb}
+use lib.Signed.{lt_z}
 use lib.IntN.{ℤ, pos}
 use lib.ListN.{length, get_or, take}
 use lib.Seq.{take_all}
@@ -47,22 +48,20 @@ seen c = get_or (began c).args.lengths.now c.loop-passed.passed (pos 0)
 read : (c : tie.After-length-1 invariant-loop decreases-loop) → signed_of integer8 (bits_of integer8 (seen (turn c))) ≡ seen (turn c)
 read c = read_back integer8 (began (turn c)).args.lengths.now (turn c).loop-passed.passed c.length-1.given
 
-returns-2 : tie.Need-returns-then-length-lt1 invariant-loop decreases-loop
-returns-2 c =
-    let t = turn c.before in
-    let low = at_least-below 1 _ ∙ ap not (rw (read c.before) at c.if-length-lt1.true) in
-    rw (← (passing-failed (positive-run _) t.loop-passed.invariant.0 c.before.before.loop-passed-test.true {t = false} (sym low) refl))
+-- the test of it is whether that is below 1
+below : (c : tie.After-length-1 invariant-loop decreases-loop) {b : Bool} → lt_z (signed_of integer8 (bits_of integer8 (seen (turn c)))) (pos 1) ≡ b → at_least 1 (seen (turn c)) ≡ not b
+below c h = at_least-below 1 _ ∙ ap not (rw (read c) at h)
 
--- past the test it is 1 or more
-tested : (c : tie.Else-length-lt1 invariant-loop decreases-loop) → at_least 1 (seen (turn c.before)) ≡ true
-tested c = at_least-below 1 _ ∙ ap not (rw (read c.before) at c.if-length-lt1.false)
+-- past the test it is 1 or more (the test's name is nowhere)
+tested : (c : tie.After-bits64-words invariant-loop decreases-loop) → at_least 1 (seen (turn c.before.before)) ≡ true
+tested c = below c.before.before {b = false} (search rules)
 
 -- and what is taken off is its words
 words : (c : tie.After-bits64-words invariant-loop decreases-loop) → c.bits64-words.result ≡ words_of (seen (turn c.before.before))
-words c = c.bits64-words.ensures ∙ ap (bits_of integer8) (read c.before.before) ∙ counted _ (tested c.before)
+words c = c.bits64-words.ensures ∙ ap (bits_of integer8) (read c.before.before) ∙ counted _ (tested c)
 
-returns-3 : tie.Need-returns-then-left-words invariant-loop decreases-loop
-returns-3 c =
+returns-2 : tie.Need-returns-then-left-words invariant-loop decreases-loop
+returns-2 c =
     let t = turn c.before.before.before in
     let l = t.loop-passed in
     let a = (began t).args in
@@ -75,10 +74,10 @@ loop-again c =
     let e = c.before.before in
     let t = turn e.before in
     let some = e.before.before.loop-passed-test.true in
-    (passing-next (positive-run _) t.loop-passed.invariant.0 some {t = true} (sym (tested e)) refl, omega (arith, words c.before, sum-next (began t).args.lengths.now t.loop-passed.passed (omega arith)))
+    (passing-next (positive-run _) t.loop-passed.invariant.0 some {t = true} (sym (tested c.before)) refl, omega (arith, words c.before, sum-next (began t).args.lengths.now t.loop-passed.passed (omega arith)))
 
-returns-4 : tie.Need-returns invariant-loop decreases-loop
-returns-4 c =
+returns-3 : tie.Need-returns invariant-loop decreases-loop
+returns-3 c =
     let s = c.before.before.before in
     let l = c.before.loop-passed in
     let lengths = s.args.lengths.now in
@@ -96,10 +95,12 @@ make_up_spec =
     loop-holds
     (λ c. search rules)
     (λ c. search rules)
-    returns-2
+    (λ c.
+    let t = turn c.before in
+    rw (← (passing-failed (positive-run _) t.loop-passed.invariant.0 c.before.before.loop-passed-test.true {t = false} (sym (below c.before {b = true} (search rules))) refl)))
     (λ c κs. search rules)
-    returns-3
+    returns-2
     (λ c. omega arith)
     (λ c. omega arith)
     loop-again
-    returns-4)
+    returns-3)
