@@ -52,29 +52,20 @@ appends c =
     let l = v.before.before in
     rw (read_back integer4 (given l).versions l.loop-accepted.accepted v.version-1.given) at c.append_next-turn.ensures
 
-returns : tie.Need-returns-then-turn-ne0 invariant-loop decreases-loop
-returns c =
-    let r = c.before.before.before.before in
-    let t = turn r.before.before in
-    ended _ _ t.before.loop-accepted.invariant.1 t.loop-accepted-test.true _ _ (appends r) c.if-turn-ne0.true
-
--- the append behind which an entry was accepted
-abbrev behind : tie.Else-turn-ne0 invariant-loop decreases-loop → tie.After-append_next-turn invariant-loop decreases-loop
-behind c = c.before.before.before.before
-
+-- (what the test of the turn's refusal shows is read where it is asked, and its name is nowhere)
 add-accepted : tie.Need-overflow_add-accepted invariant-loop decreases-loop
 add-accepted c =
-    let t = turn (behind c).before.before in
+    let t = turn c.before.before.before.before.before.before in
     omega (arith, t.loop-accepted-test.true)
 
 loop-again : tie.Need-loop-accepted-preserved invariant-loop decreases-loop
 loop-again c =
-    let r = behind c in
+    let r = c.before.before.before.before in
     let t = turn r.before.before in
-    (omega arith, before-next _ _ t.before.loop-accepted.invariant.1 t.loop-accepted-test.true _ _ (appends r) c.if-turn-ne0.false)
+    (omega arith, before-next _ _ t.before.loop-accepted.invariant.1 t.loop-accepted-test.true _ _ (appends r) (omega arith))
 
-returns-2 : tie.Need-returns invariant-loop decreases-loop
-returns-2 c = all-accepted _ _ c.before.loop-accepted.invariant.1 c.loop-accepted-test.false
+returns : tie.Need-returns invariant-loop decreases-loop
+returns c = all-accepted _ _ c.before.loop-accepted.invariant.1 c.loop-accepted-test.false
 
 pub append_in_turn_spec : {M : Type 1} → statement M
 append_in_turn_spec =
@@ -90,9 +81,12 @@ append_in_turn_spec =
     (λ c. search rules)
     append-next-requires
     (λ c. search rules)
-    returns
+    (λ c.
+    let r = c.before.before.before.before in
+    let t = turn r.before.before in
+    ended _ _ t.before.loop-accepted.invariant.1 t.loop-accepted-test.true _ _ (appends r) (λ z. omega arith))
     add-accepted
     (λ c. omega arith)
     loop-again
     (λ c. search rules)
-    returns-2)
+    returns)

@@ -18,21 +18,14 @@ invariant-loop counts column elements left₀ passed₀ left passed =
 abbrev decreases-loop : tie.decreases-loop-passed
 decreases-loop counts column elements left₀ passed₀ left passed = length counts - passed
 
-returns : tie.Need-returns-then-left-count invariant-loop decreases-loop
-returns c =
-    let a = c.before.before.before.before.args in
-    let l = c.before.before.before.loop-passed in
-    let rows = a.counts.now in
-    sym (ne_eqb (together a.column rows) a.elements (λ e. omega (arith, together-next a.column rows l.passed (omega arith))))
-
 loop-again : tie.Need-loop-passed-preserved invariant-loop decreases-loop
 loop-again c =
     let a = c.before.before.before.before.args in
     let l = c.before.before.before.loop-passed in
     omega (arith, together-next a.column a.counts.now l.passed (omega arith))
 
-returns-2 : tie.Need-returns invariant-loop decreases-loop
-returns-2 c =
+returns : tie.Need-returns invariant-loop decreases-loop
+returns c =
     let a = c.before.before.args in
     let l = c.before.loop-passed in
     let rows = a.counts.now in
@@ -50,8 +43,12 @@ use_up_spec =
     (λ c. search rules)
     (λ c. search rules)
     (λ c. search rules)
-    returns
+    (λ c.
+    let a = c.before.before.before.before.args in
+    let l = c.before.before.before.loop-passed in
+    let rows = a.counts.now in
+    sym (ne_eqb (together a.column rows) a.elements (λ e. omega (arith, together-next a.column rows l.passed (omega arith)))))
     (λ c. search rules)
     (λ c. omega arith)
     loop-again
-    returns-2)
+    returns)
