@@ -182,11 +182,8 @@ fn run_lines(lines: &mut Lines, script: &[u8], record: &mut [u8], room: &mut [u8
     requires { length room.old ≡ 1623632 }
 {
     let mut lent = 0;
-    let mut at = 0;
-    while at < script.len() {
-        let end = find(script, at, b'\n');
-        lent = run_line(lines, &script[at..end], record, room, lent);
-        at = end + 1;
+    for line in script.split(|byte| *byte == b'\n') {
+        lent = run_line(lines, line, record, room, lent);
     }
 }
 

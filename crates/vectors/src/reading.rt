@@ -66,14 +66,12 @@ pub(crate) fn find(bytes: &[u8], from: usize, byte: u8) -> usize
     requires { from ≤ length bytes.now }
     ensures { (from ≤ result) × (result ≤ length bytes.now) }
 {
-    let mut at = from;
-    while at < bytes.len() {
+    for at in from..bytes.len() {
         if bytes[at] == byte {
             return at;
         }
-        at += 1;
     }
-    at
+    bytes.len()
 }
 
 // Which of the words of a table this is, counted from 0; past the last if it is none.
@@ -147,19 +145,19 @@ fn read_number(bytes: &[u8], at: usize) -> Value {
 pub(crate) fn list(bytes: &[u8], from: usize, values: &mut [i64]) -> Read
     ensures { result.count ≤ length values.old }
 {
-    let mut count = 0;
     let mut next = from;
-    while count < values.len() {
+    for count in 0..values.len() {
         let read = read_number(bytes, next);
         if read.next == next {
             return Read { count, next };
         }
-        let value = read.value;
-        values[count] = value;
-        count += 1;
+        values[count] = read.value;
         next = read.next;
     }
-    Read { count, next }
+    Read {
+        count: values.len(),
+        next,
+    }
 }
 
 // The bits of a number of a list, 0 past its end.
