@@ -2,15 +2,19 @@
 // What cannot be read or written is told on standard error.
 #![tactic(auto)]
 
-ghost use Rattle.std.specs.Prelude.{IfOk};
+ghost use Rattle.std.specs.Prelude.{◌<◌, length, take, IfOk, OnOk};
 ghost use Rattle.std.specs.Io.{ReadsAtMost};
+ghost use Rattle.std.specs.Io.KnownBytes.{Appends, Consumes, IsAtEnd};
+ghost use Rattle.listing.specs.Listing.{output_of};
 
 use listing::{INPUT_MAX, OUTPUT_ROOM};
 use std::io::{self, Read, Write};
 
 // Reads until the bytes are full or the input ends, and answers how many were read.
 fn read_full<R: Read>(input: &mut R, bytes: &mut [u8]) -> io::Result<usize>
-    ensures { ReadsAtMost result bytes.new }
+    ensures within { ReadsAtMost result bytes.new }
+    ensures read { IfOk result (λ count. Consumes (R.remaining input.old) (R.remaining input.new) (take count bytes.new)) }
+    ensures ended { IfOk result (λ count. count < length bytes.new → IsAtEnd (R.remaining input.new)) }
 {
     let mut done = 0;
     while done < bytes.len() {
@@ -24,7 +28,9 @@ fn read_full<R: Read>(input: &mut R, bytes: &mut [u8]) -> io::Result<usize>
 }
 
 // Writes what is printed of an input.
-fn write_listing<W: Write>(input: &[u8], to: &mut W) -> io::Result<()> {
+fn write_listing<W: Write>(input: &[u8], to: &mut W) -> io::Result<()>
+    ensures { OnOk result (Appends (W.contents to.old) (W.contents to.new) (output_of input.now)) }
+{
     let mut output = [0u8; OUTPUT_ROOM];
     let count = listing::list_input(input, &mut output);
     to.write_all(&output[..count])
