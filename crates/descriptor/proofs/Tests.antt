@@ -6,12 +6,19 @@ use borrow.Author.Tests.{not-true, not-false, eq-eqb, ne_eqb, eqb-true, eqb-fals
 use lib.Dec.{eqb}
 
 -- `if !f(..)` was left
-pub holds : {r e : Bool} → r ≡ e → not r ≡ false → e ≡ true
-holds {r} p q = sym p ∙ not-false r q
+pub holds : {r e : Bool} → r ≡ e → r ≡ true → e ≡ true
+holds p q = sym p ∙ q
 
 -- `if !f(..)` was taken
-pub broken : {r e : Bool} → r ≡ e → not r ≡ true → e ≡ false
-broken {r} p q = sym p ∙ not-true r q
+pub broken : {r e : Bool} → r ≡ e → r ≡ false → e ≡ false
+broken p q = sym p ∙ q
+
+-- the same of `if !x.f`, whose test is of a field
+pub holds-not : {r e : Bool} → r ≡ e → not r ≡ false → e ≡ true
+holds-not {r} p q = sym p ∙ not-false r q
+
+pub broken-not : {r e : Bool} → r ≡ e → not r ≡ true → e ≡ false
+broken-not {r} p q = sym p ∙ not-true r q
 
 -- two tests of equality, of which one holds exactly when the other does
 pub same_test : (a b c d : ℕ) → (a ≡ b → c ≡ d) → (c ≡ d → a ≡ b) → eqb a b ≡ eqb c d

@@ -81,16 +81,16 @@ module _ (file : List ℕ) (d : DescriptorNumbers) (addresses : List RecordNumbe
       tested = let q : passed + 1 - 1 ≡ passed = omega arith in rw (← is, opens, q, ← p.last)
 
       -- the code's first test finds that it starts too early
-      pub fails-start : {r : Bool} → r ≡ starts_in_order d addresses slot end x.start → not r ≡ true → failed (passed + 1) 25 ≡ checked_all file d addresses
+      pub fails-start : {r : Bool} → r ≡ starts_in_order d addresses slot end x.start → r ≡ false → failed (passed + 1) 25 ≡ checked_all file d addresses
       fails-start t n = let s = broken t n in ended 25 (tested ∙ rw s) refl
 
-      module _ {r q : Bool} (t : r ≡ starts_in_order d addresses slot end x.start) (starts : not r ≡ false) (u : q ≡ ends_in_order d addresses slot (end_of x)) where
+      module _ {r q : Bool} (t : r ≡ starts_in_order d addresses slot end x.start) (starts : r ≡ true) (u : q ≡ ends_in_order d addresses slot (end_of x)) where
         -- its second test finds that it ends too late
-        pub fails-end : not q ≡ true → failed (passed + 1) 25 ≡ checked_all file d addresses
+        pub fails-end : q ≡ false → failed (passed + 1) 25 ≡ checked_all file d addresses
         fails-end n = let s = holds t starts in let e = broken u n in ended 25 (tested ∙ rw (s, e)) refl
 
         -- it passes both
-        pub passes : not q ≡ false → Passing entries (passed + 1) (end_of x)
+        pub passes : q ≡ true → Passing entries (passed + 1) (end_of x)
         passes n =
             let s = holds t starts in
             let e = holds u n in

@@ -1,7 +1,6 @@
 -- Tests that run over one thing after the other and pass where each test passes. Assumes nothing.
 use mathlib.Core.Path.{◌≡◌, sym, ap, ◌∙◌}
-use mathlib.Core.Bool.{Bool, true, false, not, ◌&&◌, and-eq-true_iff}
-use borrow.Author.Tests.{not-true, not-false}
+use mathlib.Core.Bool.{Bool, true, false, ◌&&◌, and-eq-true_iff}
 use Prim.Native.Nat.{ℕ, zero, suc, ◌+◌, ◌≤◌, ◌<◌}
 use native.Mathlib.Omega.{arith}
 use native.Mathlib.Numerals.{add-one}
@@ -48,9 +47,9 @@ module _ {run test : ℕ → Bool} (r : Run run test) where
   -- a turn of that loop, which finds t of the next test
   module _ {n made : ℕ} (p : Passing run n made) (some : made < n) {t : Bool} (e : t ≡ test made) where
     -- a test that passes leads to the next
-    pub passing-next : not t ≡ false → Passing run n (made + 1)
-    passing-next h = record { few = omega arith; so_far = run-next made p.so_far ∙ sym e ∙ not-false t h }
+    pub passing-next : t ≡ true → Passing run n (made + 1)
+    passing-next h = record { few = omega arith; so_far = run-next made p.so_far ∙ sym e ∙ h }
 
     -- and with one that fails the run fails
-    pub passing-failed : not t ≡ true → false ≡ run n
-    passing-failed h = sym (run-failed made n some (sym e ∙ not-true t h))
+    pub passing-failed : t ≡ false → false ≡ run n
+    passing-failed h = sym (run-failed made n some (sym e ∙ h))

@@ -10,9 +10,9 @@ returns c =
     let counted = c.before.before.before in
     let placed = counted.before in
     let file = placed.before.before.before.args.file.now in
-    c.before.before.zero.ensures ∙ (λ i. splice file (placed.first-record-offset.ensures i) (zeros (counted.byte-offset.ensures i)))
+    c.before.before.zero.ensures ∙ (λ i. splice file (placed.first_record_offset.ensures i) (zeros (counted.byte_offset.ensures i)))
 
-pub clear-rest-spec : {M : Type 1} → statement M
-clear-rest-spec =
+pub clear_rest_spec : {M : Type 1} → statement M
+clear_rest_spec =
     tie.close
     (tie.spec (λ c κs. search rules) (λ c. search rules) (λ c κs. search rules) (λ c κs. search rules) (λ c. search rules) returns)

@@ -6,7 +6,7 @@ use Rattle.fields.proofs.put_counts.Tie as tie
 returns : tie.Need-returns
 returns c = cc
 
-pub put-counts-spec : {M : Type 1} → statement M
-put-counts-spec =
+pub put_counts_spec : {M : Type 1} → statement M
+put_counts_spec =
     tie.close
     (tie.spec (λ c κs. search rules) (λ c κs. search rules) (λ c κs. search rules) (λ c. search rules) returns)

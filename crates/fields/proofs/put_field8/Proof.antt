@@ -6,6 +6,6 @@ use Rattle.fields.proofs.put_field8.Tie as tie
 returns : tie.Need-returns
 returns c = cc
 
-pub put-field8-spec : {M : Type 1} → statement M
-put-field8-spec =
+pub put_field8_spec : {M : Type 1} → statement M
+put_field8_spec =
     tie.close (tie.spec (λ c κs. search rules) (λ c κs. search rules) (λ c. search rules) returns)

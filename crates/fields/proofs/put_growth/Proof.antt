@@ -6,7 +6,7 @@ use Rattle.fields.proofs.put_growth.Tie as tie
 returns : tie.Need-returns
 returns c = cc
 
-pub put-growth-spec : {M : Type 1} → statement M
-put-growth-spec =
+pub put_growth_spec : {M : Type 1} → statement M
+put_growth_spec =
     tie.close
     (tie.spec (λ c κs. search rules) (λ c κs. search rules) (λ c κs. search rules) (λ c κs. search rules) (λ c. search rules) returns)

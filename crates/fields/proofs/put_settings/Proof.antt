@@ -11,12 +11,12 @@ use Rattle.fields.proofs.put_settings.Tie as tie
 -- the file once the code is written
 coded : (c : tie.After-put) → let p = c.before.before.before.before in
     let a = p.before.before.args in
-    c.put.new.0 ≡ splice a.file.now (first_record_offset_of file_code_word) (file_code a.d.order)
+    c.put.new.image ≡ splice a.file.now (first_record_offset_of file_code_word) (file_code a.d.order)
 coded c =
     let o = c.before.before in
     let p = o.before.before in
     let a = p.before.before.args in
-    c.put.ensures ∙ (λ i. splice a.file.now (o.first-record-offset.ensures i) (p.file-code.ensures i))
+    c.put.ensures ∙ (λ i. splice a.file.now (o.first_record_offset.ensures i) (p.file_code-code.ensures i))
 
 returns : tie.Need-returns
 returns c =
@@ -25,10 +25,10 @@ returns c =
     let vind = lind.before.before.before.before in
     let kind = vind.before.before.before.before in
     let reclen = kind.before.before.before.before in
-    rw (lind.put-field44.ensures, vind.put-field43.ensures, kind.put-field42.ensures, reclen.put-field4.ensures, coded reclen.before.before.before.before) at flags.put-field45.ensures
+    rw (lind.put_field4-4.ensures, vind.put_field4-3.ensures, kind.put_field4-2.ensures, reclen.put_field4.ensures, coded reclen.before.before.before.before.before.before.before.before.before) at flags.put_field4-5.ensures
 
-pub put-settings-spec : {M : Type 1} → statement M
-put-settings-spec =
+pub put_settings_spec : {M : Type 1} → statement M
+put_settings_spec =
     tie.close
     (tie.spec
     (λ c κs. search rules)

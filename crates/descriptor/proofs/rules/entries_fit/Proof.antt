@@ -15,10 +15,10 @@ use Rattle.descriptor.proofs.rules.entries_fit.Tie as tie
 some : (s : tie.Start) → 1 ≤ s.args.d.nex → let a = s.args in entries_fit (growth_in a.d) a.d.nex a.n ≡ leb a.n a.total && ltb a.before a.n
 some s h = let a = s.args in rw (s.requires.without, s.requires.with) (fit-some (growth_in a.d) a.n a.d.nex h)
 
-pub entries-fit-spec : {M : Type 1} → statement M
-entries-fit-spec =
+pub entries_fit_spec : {M : Type 1} → statement M
+entries_fit_spec =
     tie.close
     (tie.spec
-    (λ c. rw c.if1.true (sym (fit_none _ _)))
-    (λ c. rw (some c.before.before.before (omega (arith, c.before.if1.false)), lt-leb _ _ c.if2.true))
-    (λ c. rw (some c.before.before.before (omega (arith, c.before.if1.false)), le-leb _ _ c.if2.false)))
+    (λ c. rw c.if-d-eq0.true (sym (fit_none _ _)))
+    (λ c. rw (some c.before.before.before (omega (arith, c.before.if-d-eq0.false)), lt-leb _ _ c.if-total-n.true))
+    (λ c. rw (some c.before.before.before (omega (arith, c.before.if-d-eq0.false)), le-leb _ _ c.if-total-n.false)))

@@ -11,20 +11,20 @@ use Rattle.entry.proofs.inner.place_stored.Statement.{statement}
 use Rattle.entry.proofs.inner.place_stored.Tie as tie
 
 -- the record
-first : (c : tie.After-u64-at) → let a = c.before.before.before.args in c.u64-at.result ≡ bits_at (byte_order_of a.file.now) integer8 a.file.now (offset_of a.slot)
+first : (c : tie.After-u64_at) → let a = c.before.before.before.args in c.u64_at.result ≡ bits_at (byte_order_of a.file.now) integer8 a.file.now (offset_of a.slot)
 first c =
     let s = c.before.before.before in
-    rw c.before.byte-offset.ensures at c.u64-at.ensures ∙ ap (λ (o : ByteOrder). bits_at o integer8 s.args.file.now (offset_of s.args.slot)) s.requires.0
+    rw c.before.byte_offset.ensures at c.u64_at.ensures ∙ ap (λ (o : ByteOrder). bits_at o integer8 s.args.file.now (offset_of s.args.slot)) s.requires.0
 
 -- the word
-second : (c : tie.After-u32-at) → let a = c.before.before.before.before.before.args in c.u32-at.result ≡ bits_at (byte_order_of a.file.now) integer4 a.file.now (offset_of (a.slot + 2))
+second : (c : tie.After-u32_at) → let a = c.before.before.before.before.before.args in c.u32_at.result ≡ bits_at (byte_order_of a.file.now) integer4 a.file.now (offset_of (a.slot + 2))
 second c =
     let s = c.before.before.before.before.before in
-    rw c.before.byte-offset2.ensures at c.u32-at.ensures ∙ ap (λ (o : ByteOrder). bits_at o integer4 s.args.file.now (offset_of (s.args.slot + 2))) s.requires.0
+    rw c.before.byte_offset-2.ensures at c.u32_at.ensures ∙ ap (λ (o : ByteOrder). bits_at o integer4 s.args.file.now (offset_of (s.args.slot + 2))) s.requires.0
 
-pub place-stored-spec : {M : Type 1} → statement M
+pub place_stored_spec : {M : Type 1} → statement M
 unfolding place_stored
-place-stored-spec =
+place_stored_spec =
     tie.close
     (tie.spec
     (λ c κs. search rules)

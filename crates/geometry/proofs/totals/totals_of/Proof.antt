@@ -24,7 +24,7 @@ abbrev start : tie.At-loop-walk invariant-loop decreases-loop → tie.Start inva
 start l = l.before.before
 
 abbrev turn : tie.After-struct_known-in-loop-walk-1 invariant-loop decreases-loop → tie.In-loop-walk invariant-loop decreases-loop
-turn c = c.before.before
+turn c = c.before.before.before
 
 abbrev at-loop : tie.In-loop-walk invariant-loop decreases-loop → tie.At-loop-walk invariant-loop decreases-loop
 at-loop c = c.before.before
@@ -38,7 +38,7 @@ loop-holds c =
     let at = walk-stands _ c.walk_begun-walk.ensures in
     (at.1, omega (arith, at.0), rw at.0 filling-none)
 
-add-totals : tie.Need-overflow-add-totals invariant-loop decreases-loop
+add-totals : tie.Need-overflow_add-totals invariant-loop decreases-loop
 add-totals c =
     let l = at-loop (turn c) in
     omega (arith, total c, total-limit (start l).args.growth l.loop-walk.walk.extension.0 (start l).args.count (turn c).loop-walk-test.true (start l).requires.1.within)
@@ -73,7 +73,7 @@ totals_of_spec =
     decreases-loop
     (λ c κs. c.requires.1.lex1-high)
     loop-holds
-    (λ c κs. (at-loop c).loop-walk.invariant.1)
+    (λ c κs. (at-loop c.before).loop-walk.invariant.1)
     add-totals
     (λ c. omega arith)
     (λ c. omega arith)

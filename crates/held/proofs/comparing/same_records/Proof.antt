@@ -9,32 +9,32 @@ use Rattle.held.proofs.Tables.{number_at, length-numbers, Agreeing, agreeing-non
 use Rattle.held.proofs.comparing.same_records.Statement.{statement}
 use Rattle.held.proofs.comparing.same_records.Tie as tie
 
-abbrev invariant-loop : tie.invariant-loop
+abbrev invariant-loop : tie.invariant-loop-passed
 invariant-loop one other passed₀ passed = Agreeing (record_numbers one) (record_numbers other) passed
 
-abbrev decreases-loop : tie.decreases-loop
+abbrev decreases-loop : tie.decreases-loop-passed
 decreases-loop one other passed₀ passed = 16 - passed
 
 -- the turn that a place is in
-abbrev turn : tie.After-struct-known2 invariant-loop decreases-loop → tie.At-loop invariant-loop decreases-loop
+abbrev turn : tie.After-struct_known-in-loop-passed-1 invariant-loop decreases-loop → tie.At-loop-passed invariant-loop decreases-loop
 turn c = c.before.before.before.before.before
 
 -- the numbers at the place that the turn looks at
-here : (c : tie.After-struct-known2 invariant-loop decreases-loop) → let l = turn c in get_or (record_numbers l.before.args.t1) l.loop.passed 0 ≡ (get_or l.before.args.t1 l.loop.passed (record { 0 = 0 })).0
-here c = number_at (turn c).before.args.t1 (turn c).loop.passed
+here : (c : tie.After-struct_known-in-loop-passed-1 invariant-loop decreases-loop) → let l = turn c in get_or (record_numbers l.before.args.one) l.loop-passed.passed 0 ≡ (get_or l.before.args.one l.loop-passed.passed (record { 0 = 0 })).0
+here c = number_at (turn c).before.args.one (turn c).loop-passed.passed
 
-there : (c : tie.After-struct-known2 invariant-loop decreases-loop) → let l = turn c in get_or (record_numbers l.before.args.t2) l.loop.passed 0 ≡ (get_or l.before.args.t2 l.loop.passed (record { 0 = 0 })).0
-there c = number_at (turn c).before.args.t2 (turn c).loop.passed
+there : (c : tie.After-struct_known-in-loop-passed-1 invariant-loop decreases-loop) → let l = turn c in get_or (record_numbers l.before.args.other) l.loop-passed.passed 0 ≡ (get_or l.before.args.other l.loop-passed.passed (record { 0 = 0 })).0
+there c = number_at (turn c).before.args.other (turn c).loop-passed.passed
 
-returns-2 : tie.Need-returns-2 invariant-loop decreases-loop
+returns-2 : tie.Need-returns invariant-loop decreases-loop
 returns-2 c =
     let a = c.before.before.args in
-    let one = length-numbers a.t1 in
-    let other = length-numbers a.t2 in
-    sym (agreeing-all c.before.loop.invariant (omega (arith, one, other)) (omega (arith, one)))
+    let one = length-numbers a.one in
+    let other = length-numbers a.other in
+    sym (agreeing-all c.before.loop-passed.invariant (omega (arith, one, other)) (omega (arith, one)))
 
-pub same-records-spec : {M : Type 1} → statement M
-same-records-spec =
+pub same_records_spec : {M : Type 1} → statement M
+same_records_spec =
     tie.close
     (tie.spec
     invariant-loop
@@ -44,8 +44,8 @@ same-records-spec =
     (λ c. omega arith)
     (λ c. omega arith)
     (λ c. omega arith)
-    (λ c. sym (differ-at _ _ _ (λ q. c.if1.true (sym (here c.before) ∙ q ∙ there c.before))))
+    (λ c. sym (differ-at _ _ _ (λ q. c.if-here-there.true (sym (here c.before) ∙ q ∙ there c.before))))
     (λ c. omega arith)
     (λ c. omega arith)
-    (λ c. agreeing-next (turn c.before).loop.inv (here c.before ∙ c.if1.false ∙ sym (there c.before)))
+    (λ c. agreeing-next (turn c.before).loop-passed.invariant (here c.before ∙ c.if-here-there.false ∙ sym (there c.before)))
     returns-2)

@@ -7,14 +7,14 @@ use Rattle.held.proofs.Tables.{Agreeing, agreeing-none, agreeing-next, agreeing-
 use Rattle.held.proofs.comparing.same_totals.Statement.{statement}
 use Rattle.held.proofs.comparing.same_totals.Tie as tie
 
-abbrev invariant-loop : tie.invariant-loop
+abbrev invariant-loop : tie.invariant-loop-compared
 invariant-loop one other compared₀ compared = Agreeing one other compared
 
-abbrev decreases-loop : tie.decreases-loop
+abbrev decreases-loop : tie.decreases-loop-compared
 decreases-loop one other compared₀ compared = 16 - compared
 
-pub same-totals-spec : {M : Type 1} → statement M
-same-totals-spec =
+pub same_totals_spec : {M : Type 1} → statement M
+same_totals_spec =
     tie.close
     (tie.spec
     invariant-loop
@@ -24,8 +24,8 @@ same-totals-spec =
     (λ c. omega arith)
     (λ c. omega arith)
     (λ c. omega arith)
-    (λ c. sym (differ-at _ _ _ c.if1.true))
+    (λ c. sym (differ-at _ _ _ c.if-one-compared.true))
     (λ c. omega arith)
     (λ c. omega arith)
-    (λ c. agreeing-next c.before.before.loop.invariant c.if1.false)
-    (λ c. sym (agreeing-all c.before.loop.invariant (omega arith) (omega arith))))
+    (λ c. agreeing-next c.before.before.loop-compared.invariant c.if-one-compared.false)
+    (λ c. sym (agreeing-all c.before.loop-compared.invariant (omega arith) (omega arith))))

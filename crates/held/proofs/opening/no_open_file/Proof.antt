@@ -4,7 +4,7 @@ use Rattle.held.proofs.opening.no_open_file.Statement.{statement}
 use Rattle.held.proofs.opening.no_open_file.Tie as tie
 
 returns : tie.Need-returns
-returns c = rw c.no-numbers.ensures
+returns c = rw c.no_numbers-numbers.ensures
 
-pub no-open-file-spec : {M : Type 1} → statement M
-no-open-file-spec = tie.close (tie.spec (λ c κs. search rules) returns)
+pub no_open_file_spec : {M : Type 1} → statement M
+no_open_file_spec = tie.close (tie.spec (λ c κs. search rules) returns)

@@ -4,6 +4,6 @@ use Rattle.layout.specs.FileCode.{file_code}
 use Rattle.layout.proofs.file_code.file_code.Statement.{statement}
 use Rattle.layout.proofs.file_code.file_code.Tie as tie
 
-pub file-code-spec : {M : Type 1} → statement M
+pub file_code_spec : {M : Type 1} → statement M
 unfolding file_code
-file-code-spec = tie.close (tie.spec (λ c. rw (eq-eqb _ 0 c.if1.true)) (λ c. rw (ne_eqb _ 0 c.if1.false)))
+file_code_spec = tie.close (tie.spec (λ c. rw (eq-eqb _ 0 c.if-order-eq0.true)) (λ c. rw (ne_eqb _ 0 c.if-order-eq0.false)))

@@ -3,7 +3,6 @@ use mathlib.Core.Path.{◌≡◌}
 use mathlib.Core.Bool.{true}
 use native.Mathlib.Omega.{arith}
 use borrow.Author.Rules.{rules}
-use borrow.Author.Tests.{not-true, not-false}
 use Rattle.words.specs.Word.{integer8, signed_of}
 use Rattle.words.specs.Range.{at_least}
 use Rattle.words.proofs.Ranges.{at_least-bounds}
@@ -13,21 +12,21 @@ use Rattle.pieces.proofs.contents.piece_within.Statement.{statement}
 use Rattle.pieces.proofs.contents.piece_within.Tie as tie
 
 -- the first test
-first : (c : tie.After-at-least8) → let a = c.before.before.args in c.at-least8.result ≡ at_least (first_content a.nsec).0 (signed_of integer8 a.piece.address.0)
-first c = rw c.before.first-content.ensures at c.at-least8.ensures
+first : (c : tie.After-at_least8) → let a = c.before.before.args in c.at_least8.result ≡ at_least (first_content a.nsec).0 (signed_of integer8 a.piece.address.0)
+first c = rw c.before.first_content.ensures at c.at_least8.ensures
 
 -- what it leaves
-start : (c : tie.Else1) → let a = c.before.before.before.args in at_least (first_content a.nsec).0 (signed_of integer8 a.piece.address.0) ≡ true
-start c = rw (← (first c.before)) (not-false _ c.if1.false)
+start : (c : tie.Else-not-at_least8) → let a = c.before.before.before.args in at_least (first_content a.nsec).0 (signed_of integer8 a.piece.address.0) ≡ true
+start c = rw (← (first c.before)) c.if-not-at_least8.false
 
-pub piece-within-spec : {M : Type 1} → statement M
+pub piece_within_spec : {M : Type 1} → statement M
 unfolding piece_within
-piece-within-spec =
+piece_within_spec =
     tie.close
     (tie.spec
     (λ c κs. search rules)
     (λ c κs. search rules)
-    (λ c. rw (← (first c.before), not-true c.before.at-least8.result c.if1.true))
+    (λ c. rw (← (first c.before), c.if-not-at_least8.true))
     (λ c. let a = c.before.before.before.before.args in omega (arith, at_least-bounds integer8 (first_content a.nsec).0 a.piece.address.0 (start c.before)))
     (λ c. search rules)
     (λ c. rw (start c.before)))

@@ -5,7 +5,7 @@ use Rattle.pieces.specs.Contents.{apart}
 use Rattle.pieces.proofs.contents.pieces_apart.Statement.{statement}
 use Rattle.pieces.proofs.contents.pieces_apart.Tie as tie
 
-pub pieces-apart-spec : {M : Type 1} → statement M
+pub pieces_apart_spec : {M : Type 1} → statement M
 unfolding apart
-pieces-apart-spec =
-    tie.close (tie.spec (λ c. search rules) (λ c. rw (le-leb _ _ c.if1.true)) (λ c. search rules) (λ c. rw (lt-leb _ _ c.before.before.if1.false)))
+pieces_apart_spec =
+    tie.close (tie.spec (λ c. search rules) (λ c. rw (le-leb _ _ c.if-first-second.true)) (λ c. search rules) (λ c. rw (lt-leb _ _ c.before.before.if-first-second.false)))

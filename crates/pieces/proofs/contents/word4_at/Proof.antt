@@ -4,6 +4,6 @@ use Rattle.pieces.specs.EntryDescriptor.{word4}
 use Rattle.pieces.proofs.contents.word4_at.Statement.{statement}
 use Rattle.pieces.proofs.contents.word4_at.Tie as tie
 
-pub word4-at-spec : {M : Type 1} → statement M
+pub word4_at_spec : {M : Type 1} → statement M
 unfolding word4
-word4-at-spec = tie.close (tie.spec (λ c κs. search rules) (λ c κs. search rules) (λ c κs. search rules) (λ c. search rules) (λ c. cc))
+word4_at_spec = tie.close (tie.spec (λ c κs. search rules) (λ c κs. search rules) (λ c κs. search rules) (λ c. search rules) (λ c. cc))

@@ -4,6 +4,6 @@ use Rattle.pieces.specs.EntryDescriptor.{word8}
 use Rattle.pieces.proofs.contents.word8_at.Statement.{statement}
 use Rattle.pieces.proofs.contents.word8_at.Tie as tie
 
-pub word8-at-spec : {M : Type 1} → statement M
+pub word8_at_spec : {M : Type 1} → statement M
 unfolding word8
-word8-at-spec = tie.close (tie.spec (λ c κs. search rules) (λ c κs. search rules) (λ c κs. search rules) (λ c. cc))
+word8_at_spec = tie.close (tie.spec (λ c κs. search rules) (λ c κs. search rules) (λ c κs. search rules) (λ c. cc))

@@ -5,11 +5,11 @@ use Rattle.words.proofs.Number.{order-little}
 use Rattle.pieces.proofs.head.head_at.Statement.{statement}
 use Rattle.pieces.proofs.head.head_at.Tie as tie
 
-pub head-at-spec : {M : Type 1} → statement M
-head-at-spec =
+pub head_at_spec : {M : Type 1} → statement M
+head_at_spec =
     tie.close
     (tie.spec
-    (λ c κs. let s = c.before.before.before in (order-little s.args.order c.if1.true ∙ s.requires.0, s.requires.1))
+    (λ c κs. let s = c.before.before.before in (order-little s.args.order c.if-order-eq0.true ∙ s.requires.0, s.requires.1))
     (λ c. c.head_in.ensures)
     (λ c κs. search rules)
-    (λ c. c.head-in2.ensures))
+    (λ c. c.head_in-2.ensures))

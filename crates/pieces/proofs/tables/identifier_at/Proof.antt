@@ -10,16 +10,16 @@ use Rattle.pieces.proofs.tables.identifier_at.Statement.{statement}
 use Rattle.pieces.proofs.tables.identifier_at.Tie as tie
 
 -- the position of the word
-at : (c : tie.After-entry-position) → let a = c.before.before.before.args in c.entry-position.result ≡ a.start + (12 + a.i - 1)
-at c = c.entry-position.ensures ∙ ap (entry_position_of c.before.before.before.args.start) c.before.identifier-word.ensures
+at : (c : tie.After-entry_position) → let a = c.before.before.before.args in c.entry_position.result ≡ a.start + (12 + a.i - 1)
+at c = c.entry_position.ensures ∙ ap (entry_position_of c.before.before.before.args.start) c.before.identifier_word.ensures
 
-pub identifier-at-spec : {M : Type 1} → statement M
+pub identifier_at_spec : {M : Type 1} → statement M
 unfolding word4
-identifier-at-spec =
+identifier_at_spec =
     tie.close
     (tie.spec
     (λ c κs. search rules)
-    (λ c κs. rw c.identifier-word.ensures (omega arith))
+    (λ c κs. rw c.identifier_word.ensures (omega arith))
     (λ c κs. omega (arith, at c))
     (λ c κs. omega (arith, at c.before))
-    (λ c. cc (to_z-of_z (sfits_of c.i32-at.type-inv))))
+    (λ c. cc (to_z-of_z (sfits_of c.i32_at.type_inv))))

@@ -6,7 +6,7 @@ use Rattle.placing.proofs.after.numbers_after.Tie as tie
 
 returns : tie.Need-returns
 unfolding numbers_after
-returns c = rw (c.before.before.before.before.before.place_at.ensures, c.nex-after.ensures)
+returns c = rw (c.before.before.before.before.before.place_at-next.ensures, c.nex_after.ensures)
 
-pub numbers-after-spec : {M : Type 1} → statement M
-numbers-after-spec = tie.close (tie.spec (λ c κs. search rules) (λ c. search rules) (λ c κs. search rules) returns)
+pub numbers_after_spec : {M : Type 1} → statement M
+numbers_after_spec = tie.close (tie.spec (λ c κs. search rules) (λ c. search rules) (λ c κs. search rules) returns)

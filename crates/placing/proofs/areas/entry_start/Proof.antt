@@ -8,10 +8,10 @@ use borrow.Author.Rules.{rules}
 use Rattle.placing.proofs.areas.entry_start.Statement.{statement}
 use Rattle.placing.proofs.areas.entry_start.Tie as tie
 
-extended : (c : tie.Then1) → full c.before.args.d ≡ true
-extended c = sym c.before.requires.3 ∙ c.if1.true
+extended : (c : tie.Then-extends) → full c.before.args.d ≡ true
+extended c = sym c.before.requires.3 ∙ c.if-extends.true
 
-after-new-area-requires : tie.Need-after-new-area-requires
+after-new-area-requires : tie.Need-after_new_area-requires
 after-new-area-requires c κs =
     let s = c.before in
     let p = s.requires in
@@ -23,15 +23,15 @@ position-requires c κs =
     let s = c.before.before in
     let p = s.requires in
     let small = after_small s.args.d p.0 p.2 (p.4.within (extended c.before)) in
-    rw c.after-new-area.ensures (omega (arith, small, p.0.reclen-high))
+    rw c.after_new_area.ensures (omega (arith, small, p.0.reclen-high))
 
-returns : tie.Need-returns
-returns c = rw (start-extended c.before.before.before.args.d (extended c.before.before)) (rw c.before.after-new-area.ensures at c.position.ensures)
+returns : tie.Need-returns-then-extends
+returns c = rw (start-extended c.before.before.before.args.d (extended c.before.before)) (rw c.before.after_new_area.ensures at c.position.ensures)
 
-returns-2 : tie.Need-returns-2
-returns-2 c = let s = c.before.before in c.free-position.ensures ∙ sym (start-free s.args.d (sym s.requires.3 ∙ c.before.if1.false))
+returns-2 : tie.Need-returns
+returns-2 c = let s = c.before.before in c.free_position.ensures ∙ sym (start-free s.args.d (sym s.requires.3 ∙ c.before.if-extends.false))
 
-pub entry-start-spec : {M : Type 1} → statement M
-entry-start-spec =
+pub entry_start_spec : {M : Type 1} → statement M
+entry_start_spec =
     tie.close
     (tie.spec after-new-area-requires position-requires returns (λ c κs. search rules) returns-2)

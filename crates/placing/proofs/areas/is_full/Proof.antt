@@ -16,11 +16,11 @@ returns c =
     let s = c.before.before.before.before in
     let d = s.args.d in
     let q : d.nex + 1 - 1 ≡ d.nex = omega arith in
-    let all = c.total-before.ensures ∙ before-total (growth_in d) d.nex s.requires.1 s.requires.0.nex-high (d.nex + 1) (omega arith) ∙ ap (total_of (growth_in d)) q in
-    rw (c.before.before.entries-before.ensures, all)
+    let all = c.total_before.ensures ∙ before-total (growth_in d) d.nex s.requires.1 s.requires.0.nex-high (d.nex + 1) (omega arith) ∙ ap (total_of (growth_in d)) q in
+    rw (c.before.before.entries_before.ensures, all)
 
-pub is-full-spec : {M : Type 1} → statement M
-is-full-spec =
+pub is_full_spec : {M : Type 1} → statement M
+is_full_spec =
     tie.close
     (tie.spec
     (λ c κs. search rules)

@@ -15,21 +15,21 @@ use Rattle.descriptor.proofs.inner.areas.after_area.Statement.{statement}
 use Rattle.descriptor.proofs.inner.areas.after_area.Tie as tie
 
 -- what the second test says of the first record
-late : (c : tie.Else2) → let a = c.before.before.before.before.args in at_least a.after.0 (signed_of w64 a.first.0) ≡ true
-late c = holds c.before.at-least8.ensures c.if2.false
+late : (c : tie.Else-not-at_least8) → let a = c.before.before.before.before.args in at_least a.after.0 (signed_of w64 a.first.0) ≡ true
+late c = holds c.before.at_least8.ensures c.if-not-at_least8.false
 
-pub after-area-spec : {M : Type 1} → statement M
+pub after_area_spec : {M : Type 1} → statement M
 unfolding area_added
-after-area-spec =
+after_area_spec =
     tie.close
     (tie.spec
-    (λ c. rw (eq-eqb _ 0 c.if1.true))
+    (λ c. rw (eq-eqb _ 0 c.if-after-eq0.true))
     (λ c κs. search rules)
-    (λ c. rw (ne_eqb _ 0 c.before.before.if1.false, broken c.before.at-least8.ensures c.if2.true))
+    (λ c. rw (ne_eqb _ 0 c.before.before.if-after-eq0.false, broken c.before.at_least8.ensures c.if-not-at_least8.true))
     (λ c κs. search rules)
     (λ c.
     let e = c.before.before in
     let s = e.before.before.before.before in
     let low = at_least-bounds w64 s.args.after.0 s.args.first.0 (late e) in
-    omega (arith, c.before.area-records.ensures, records-small s.args.capacity s.args.d.lind s.args.d.reclen (omega (arith, s.requires.0.reclen-low)) s.requires.1 s.requires.0.lind-high))
-    (λ c. let e = c.before.before in rw (ne_eqb _ 0 e.before.before.if1.false, late e, c.before.area-records.ensures)))
+    omega (arith, c.before.area_records.ensures, records-small s.args.capacity s.args.d.lind s.args.d.reclen (omega (arith, s.requires.0.reclen-low)) s.requires.1 s.requires.0.lind-high))
+    (λ c. let e = c.before.before in rw (ne_eqb _ 0 e.before.before.if-after-eq0.false, late e, c.before.area_records.ensures)))

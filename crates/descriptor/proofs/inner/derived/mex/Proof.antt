@@ -5,6 +5,6 @@ use borrow.Author.Rules.{rules}
 use Rattle.descriptor.proofs.inner.derived.mex.Statement.{statement}
 use Rattle.descriptor.proofs.inner.derived.mex.Tie as tie
 
-pub mex-spec : {M : Type 1} → statement M
+pub mex_spec : {M : Type 1} → statement M
 unfolding mex_of
-mex-spec = tie.close (tie.spec (λ c. search rules) (λ c. omega arith) (λ c. omega arith))
+mex_spec = tie.close (tie.spec (λ c. search rules) (λ c. omega arith) (λ c. omega arith))

@@ -5,12 +5,12 @@ use Rattle.words.proofs.Number.{order-little}
 use Rattle.descriptor.proofs.inner.reading.numbers_of.Statement.{statement}
 use Rattle.descriptor.proofs.inner.reading.numbers_of.Tie as tie
 
-pub numbers-of-spec : {M : Type 1} → statement M
-numbers-of-spec =
+pub numbers_of_spec : {M : Type 1} → statement M
+numbers_of_spec =
     tie.close
     (tie.spec
     (λ c κs. search rules)
-    (λ c κs. (order-little c.before.before.byte-order-of.result c.if1.true ∙ c.before.before.byte-order-of.ensures, c.before.before.before.before.requires))
-    (λ c. c.numbers-in.ensures)
+    (λ c κs. (order-little c.before.before.byte_order_of-order.result c.if-order-eq0.true ∙ c.before.before.byte_order_of-order.ensures, c.before.before.before.before.requires))
+    (λ c. c.numbers_in.ensures)
     (λ c κs. search rules)
-    (λ c. c.numbers-in2.ensures))
+    (λ c. c.numbers_in-2.ensures))

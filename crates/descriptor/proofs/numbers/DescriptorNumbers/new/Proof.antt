@@ -44,7 +44,7 @@ new_spec =
     let three = four.before.before in
     let two = three.before.before in
     let one = two.before.before in
-    let told = one.before.struct_told.given in
+    let told = one.before.struct_told-1.given in
     let s = one.before.before.args.settings in
-    rw (one.bits32.ensures, two.bits322.ensures, three.bits323.ensures, four.bits324.ensures, five.bits325.ensures, six.bits326.ensures, seven.bits327.ensures, c.bits328.ensures)
+    rw (one.bits32.ensures, two.bits32-2.ensures, three.bits32-3.ensures, four.bits32-4.ensures, five.bits32-5.ensures, six.bits32-6.ensures, seven.bits32-7.ensures, c.bits32-8.ensures)
     (rw (back s.order told.0.1, back s.reclen told.1.0.1, back s.kind told.1.1.0.1, back s.vind told.1.1.1.0.1, back s.lind told.1.1.1.1.0.1, back s.flags told.1.1.1.1.1.0.1, back s.lex1 told.1.1.1.1.1.1.0.1, back s.gex told.1.1.1.1.1.1.1.0.1))))
