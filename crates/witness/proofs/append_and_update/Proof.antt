@@ -19,7 +19,7 @@ returns c =
     let s = begin read in
     let a = s.args in
     let p = rw (to_z-of_z s.fits.version) at first.append.ensures in
-    let q = rw (to_z-of_z s.fits.identifier) at second.update-section.ensures in
+    let q = rw (to_z-of_z {w = w32} s.ranges.identifier) at second.update-section.ensures in
     revised a.file.now first.append.new.0 second.update-section.new.0
     (handed_in a.version a.index.now a.ids.now a.lengths.now a.sections.now a.values.now)
     (update_in a.number a.identifier a.content.now)

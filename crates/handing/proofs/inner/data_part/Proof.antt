@@ -10,32 +10,32 @@ use Rattle.handing.proofs.inner.data_part.Statement.{statement}
 use Rattle.handing.proofs.inner.data_part.Tie as tie
 
 -- the entry opened
-opened : (c : tie.Else1) → let a = c.before.before.before.before.before.args in Known a.file.now a.d a.number c.before.before.enter.result
-opened c = known _ _ _ _ _ c.before.before.before.before.before.requires.0.admitted c.before.before.enter.ensures c.if1.false
+opened : (c : tie.Else-entered-ne0) → let a = c.before.before.before.before.before.args in Known a.file.now a.d a.number c.before.before.enter-entered.result
+opened c = known _ _ _ _ _ c.before.before.before.before.before.requires.0.admitted c.before.before.enter-entered.ensures c.if-entered-ne0.false
 
 -- and its data, where there is any, lies within it
-placed : (c : tie.Else2) → let x = c.before.before.before.before.before.enter.result in Placed x.nsec x.nword x.array
-placed c = let o = opened c.before.before.before in data-placed _ _ _ o.nword-small c.if2.false o.data-within
+placed : (c : tie.Else-piece-eq0) → let x = c.before.before.before.before.before.enter-entered.result in Placed x.nsec x.nword x.array
+placed c = let o = opened c.before.before.before in data-placed _ _ _ o.nword-small c.if-piece-eq0.false o.data-within
 
-pub data-part-spec : {M : Type 1} → statement M
+pub data_part_spec : {M : Type 1} → statement M
 unfolding data_part
-data-part-spec =
+data_part_spec =
     tie.close
     (tie.spec
     (λ c κs. search rules)
     (λ c κs. search rules)
-    (λ c. let x = c.before.before.before.enter in c.no_part.ensures ∙ rw (← x.ensures, ne_eqb x.result.refusal 0 c.before.if1.true))
+    (λ c. let x = c.before.before.before.enter-entered in c.no_part.ensures ∙ rw (← x.ensures, ne_eqb x.result.refusal 0 c.before.if-entered-ne0.true))
     (λ c κs. search rules)
     (λ c.
     let b = c.before.before.before.before in
-    let x = b.before.before.enter in
-    c.no-part2.ensures
-    ∙ rw (← x.ensures, eq-eqb x.result.refusal 0 b.if1.false, eq-eqb x.result.array.words 0 c.before.if2.true))
-    (λ c κs. omega (arith, opened c.before.before.before, placed c))
-    (λ c κs. omega (arith, c.entry-position.ensures, opened c.before.before.before.before, placed c.before))
+    let x = b.before.before.enter-entered in
+    c.no_part-then-piece-eq0.ensures
+    ∙ rw (← x.ensures, eq-eqb x.result.refusal 0 b.if-entered-ne0.false, eq-eqb x.result.array.words 0 c.before.if-piece-eq0.true))
+    (λ c κs. omega (arith, opened c.before.before.before.before, placed c.before))
+    (λ c κs. omega (arith, c.entry_position.ensures, opened c.before.before.before.before.before, placed c.before.before))
     (λ c.
     let p = c.before.before in
     let b = p.before.before.before in
-    let x = b.before.before.enter in
-    c.words-from.ensures
-    ∙ rw (c.before.entry-position.ensures, ← x.ensures, eq-eqb x.result.refusal 0 b.if1.false, ne_eqb x.result.array.words 0 p.if2.false)))
+    let x = b.before.before.enter-entered in
+    c.words_from.ensures
+    ∙ rw (c.before.entry_position.ensures, ← x.ensures, eq-eqb x.result.refusal 0 b.if-entered-ne0.false, ne_eqb x.result.array.words 0 p.if-piece-eq0.false)))

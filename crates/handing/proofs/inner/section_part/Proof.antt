@@ -6,13 +6,13 @@ use Rattle.handing.proofs.inner.section_part.Statement.{statement}
 use Rattle.handing.proofs.inner.section_part.Tie as tie
 
 -- where the function began
-abbrev begin : tie.After-enter → tie.Start
+abbrev begin : tie.After-enter-entered → tie.Start
 begin c = c.before.before.before
 
-pub section-part-spec : {M : Type 1} → statement M
-section-part-spec =
+pub section_part_spec : {M : Type 1} → statement M
+section_part_spec =
     tie.close
     (tie.spec
     (λ c κs. search rules)
-    (λ c κs. readable _ _ _ _ c.enter.result (begin c).requires.0 c.enter.ensures)
-    (λ c. section-by _ _ _ _ _ c.before.enter.ensures (rw (to_z-of_z (begin c.before).ranges.identifier) at c.named-part.ensures)))
+    (λ c κs. readable _ _ _ _ c.enter-entered.result (begin c.before).requires.0 c.enter-entered.ensures)
+    (λ c. section-by _ _ _ _ _ c.before.enter-entered.ensures (rw (to_z-of_z (begin c.before.before).ranges.identifier) at c.named_part.ensures)))

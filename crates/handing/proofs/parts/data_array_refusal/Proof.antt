@@ -5,5 +5,5 @@ use borrow.Author.Rules.{rules}
 use Rattle.handing.proofs.parts.data_array_refusal.Statement.{statement}
 use Rattle.handing.proofs.parts.data_array_refusal.Tie as tie
 
-pub data-array-refusal-spec : {M : Type 1} → statement M
-data-array-refusal-spec = tie.close (tie.spec (λ c κs. search rules) (λ c. ap (λ (p : PartPlace). p.refusal) c.data-array-place.ensures))
+pub data_array_refusal_spec : {M : Type 1} → statement M
+data_array_refusal_spec = tie.close (tie.spec (λ c κs. search rules) (λ c. ap (λ (p : PartPlace). p.refusal) c.data_array_place.ensures))

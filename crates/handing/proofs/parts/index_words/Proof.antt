@@ -6,10 +6,10 @@ use borrow.Author.Rules.{rules}
 use Rattle.handing.proofs.parts.index_words.Statement.{statement}
 use Rattle.handing.proofs.parts.index_words.Tie as tie
 
-inside : (c : tie.After-index-words-place) → Inside (length c.before.before.args.file.now) c.index-words-place.result
-inside c = rw c.index-words-place.ensures (index-words-inside _ c.before.before.args.number)
+inside : (c : tie.After-index_words_place-place) → Inside (length c.before.before.args.file.now) c.index_words_place-place.result
+inside c = rw c.index_words_place-place.ensures (index-words-inside _ c.before.before.args.number)
 
-pub index-words-spec : {M : Type 1} → statement M
-index-words-spec =
+pub index_words_spec : {M : Type 1} → statement M
+index_words_spec =
     tie.close
-    (tie.spec (λ c κs. search rules) (λ c. (inside c).ordered) (λ c. (inside c).ordered) (λ c. (inside c).ends) (λ c. handed c.before.index-words-place.ensures refl refl))
+    (tie.spec (λ c κs. search rules) (λ c. (inside c).ordered) (λ c. (inside c).ordered) (λ c. (inside c).ends) (λ c. handed c.before.index_words_place-place.ensures refl refl))

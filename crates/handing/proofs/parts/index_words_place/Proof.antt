@@ -7,14 +7,14 @@ use Rattle.handing.proofs.parts.index_words_place.Statement.{statement}
 use Rattle.handing.proofs.parts.index_words_place.Tie as tie
 
 -- the place behind the call that validates, and what the numbers that it gave show
-abbrev called : tie.After-case → tie.After-admit
-called c = c.before.before.before
+abbrev called : tie.In-Numbers → tie.After-admit-case
+called c = c.before.before
 
-shown : (c : tie.After-case) → let a = called c in Admits a.before.before.before.args.file.now c.case.given.0.0 a.admit.last.1.0
-shown c = let a = (called c).admit in case-told _ a.result a.ensures.0 a.ensures.1 c.case.given.1
+shown : (c : tie.In-Numbers) → let a = called c in Admits a.before.before.before.args.file.now c.in-Numbers.d a.admit-case.new.totals
+shown c = let a = (called c).admit-case in case-told _ a.result a.ensures.0 a.ensures.1 c.in-Numbers.is
 
-pub index-words-place-spec : {M : Type 1} → statement M
-index-words-place-spec =
+pub index_words_place_spec : {M : Type 1} → statement M
+index_words_place_spec =
     tie.close
     (tie.spec
     (λ c. search rules)
@@ -25,12 +25,12 @@ index-words-place-spec =
     (λ c κs. search rules)
     (λ c.
     let t = c.before.before in
-    let a = t.before.before.before.admit in
-    whole-refused _ _ (case-left _ a.result a.ensures.0 c.before.refusal-of.ensures t.enum_told.given.1).validation c.no_part.ensures)
+    let a = t.before.before.admit-case in
+    whole-refused _ _ (case-left _ a.result a.ensures.0 c.before.refusal_of.ensures t.in_default.is).validation c.no_part.ensures)
     (λ c. search rules)
-    (λ c κs. let p = shown c.before.before in (p.admitted, p.table))
+    (λ c κs. let p = shown c.before in (p.admitted, p.table))
     (λ c.
-    let k = c.before.before.before in
+    let k = c.before.before in
     let s = (called k).before.before.before in
     let a = s.args in
-    whole_numbers _ (λ addresses d. index_part a.file.now d addresses a.number) (shown k).validation c.index-part.ensures))
+    whole_numbers _ (λ addresses d. index_part a.file.now d addresses a.number) (shown k).validation c.index_part.ensures))

@@ -5,5 +5,5 @@ use borrow.Author.Rules.{rules}
 use Rattle.handing.proofs.parts.index_words_refusal.Statement.{statement}
 use Rattle.handing.proofs.parts.index_words_refusal.Tie as tie
 
-pub index-words-refusal-spec : {M : Type 1} → statement M
-index-words-refusal-spec = tie.close (tie.spec (λ c κs. search rules) (λ c. ap (λ (p : PartPlace). p.refusal) c.index-words-place.ensures))
+pub index_words_refusal_spec : {M : Type 1} → statement M
+index_words_refusal_spec = tie.close (tie.spec (λ c κs. search rules) (λ c. ap (λ (p : PartPlace). p.refusal) c.index_words_place.ensures))

@@ -1,6 +1,7 @@
 -- `handing::parts::section_place` meets its contract, by the validation's case. Assumes nothing.
 use borrow.Author.Rules.{rules}
 use mir.Facts.{to_z-of_z}
+use mir.Syntax.{w32}
 use Rattle.descriptor.proofs.Answered.{Admits, case-told, case-left}
 use Rattle.handing.specs.Parts.{section_part}
 use Rattle.handing.proofs.Handing.{readable, section-by, whole-refused, whole_numbers}
@@ -8,14 +9,14 @@ use Rattle.handing.proofs.parts.section_place.Statement.{statement}
 use Rattle.handing.proofs.parts.section_place.Tie as tie
 
 -- the place behind the call that validates, and what the numbers that it gave show
-abbrev called : tie.After-case → tie.After-admit
-called c = c.before.before.before
+abbrev called : tie.In-Numbers → tie.After-admit-case
+called c = c.before.before
 
-shown : (c : tie.After-case) → let a = called c in Admits a.before.before.before.args.file.now c.case.given.0.0 a.admit.last.1.0
-shown c = let a = (called c).admit in case-told _ a.result a.ensures.0 a.ensures.1 c.case.given.1
+shown : (c : tie.In-Numbers) → let a = called c in Admits a.before.before.before.args.file.now c.in-Numbers.d a.admit-case.new.totals
+shown c = let a = (called c).admit-case in case-told _ a.result a.ensures.0 a.ensures.1 c.in-Numbers.is
 
-pub section-place-spec : {M : Type 1} → statement M
-section-place-spec =
+pub section_place_spec : {M : Type 1} → statement M
+section_place_spec =
     tie.close
     (tie.spec
     (λ c. search rules)
@@ -26,14 +27,14 @@ section-place-spec =
     (λ c κs. search rules)
     (λ c.
     let t = c.before.before in
-    let a = t.before.before.before.admit in
-    whole-refused _ _ (case-left _ a.result a.ensures.0 c.before.refusal-of.ensures t.enum_told.given.1).validation c.no_part.ensures)
+    let a = t.before.before.admit-case in
+    whole-refused _ _ (case-left _ a.result a.ensures.0 c.before.refusal_of.ensures t.in_default.is).validation c.no_part.ensures)
     (λ c. search rules)
-    (λ c κs. let p = shown c.before.before in (p.admitted, p.table))
-    (λ c κs. readable _ _ _ _ c.enter.result (shown c.before.before.before).admitted c.enter.ensures)
+    (λ c κs. let p = shown c.before in (p.admitted, p.table))
+    (λ c κs. readable _ _ _ _ c.enter-entered.result (shown c.before.before.before).admitted c.enter-entered.ensures)
     (λ c.
-    let x = c.before.enter in
+    let x = c.before.enter-entered in
     let k = c.before.before.before.before in
     let s = (called k).before.before.before in
     let a = s.args in
-    whole_numbers _ (λ addresses d. section_part a.file.now d addresses a.number a.identifier) (shown k).validation (section-by _ _ _ _ _ x.ensures (rw (to_z-of_z s.fits.identifier) at c.named-part.ensures))))
+    whole_numbers _ (λ addresses d. section_part a.file.now d addresses a.number a.identifier) (shown k).validation (section-by _ _ _ _ _ x.ensures (rw (to_z-of_z {w = w32} s.ranges.identifier) at c.named_part.ensures))))

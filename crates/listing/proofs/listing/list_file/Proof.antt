@@ -6,14 +6,14 @@ use Rattle.listing.proofs.listing.list_file.Statement.{statement}
 use Rattle.listing.proofs.listing.list_file.Tie as tie
 
 -- the place behind the call that validates, and what the numbers that it gave show
-abbrev called : tie.After-case → tie.After-admit
-called c = c.before.before.before
+abbrev called : tie.In-Numbers → tie.After-admit-case
+called c = c.before.before
 
-shown : (c : tie.After-case) → let a = called c in Admits a.before.before.before.before.args.file.now c.case.given.0.0 a.admit.last.1.0
-shown c = let a = (called c).admit in case-told _ a.result a.ensures.0 a.ensures.1 c.case.given.1
+shown : (c : tie.In-Numbers) → let a = called c in Admits a.before.before.before.before.args.file.now c.in-Numbers.d a.admit-case.new.totals
+shown c = let a = (called c).admit-case in case-told _ a.result a.ensures.0 a.ensures.1 c.in-Numbers.is
 
-pub list-file-spec : {M : Type 1} → statement M
-list-file-spec =
+pub list_file_spec : {M : Type 1} → statement M
+list_file_spec =
     tie.close
     (tie.spec
     (λ c. search rules)
@@ -27,11 +27,11 @@ list-file-spec =
     let l = c.before.before in
     let r = l.before.before in
     let t = r.before in
-    let a = t.before.before.before.admit in
-    rw (listing-refused _ (case-left _ a.result a.ensures.0 r.refusal-of.ensures t.enum_told.given.1).validation) l.list-refused.ensures)
+    let a = t.before.before.before.admit-case in
+    rw (listing-refused _ (case-left _ a.result a.ensures.0 r.refusal_of.ensures t.in_default.is).validation) l.list_refused.ensures)
     (λ c. search rules)
     (λ c κs. let p = shown c.before.before.before in (p.admitted, p.table))
     (λ c. search rules)
     (λ c.
     let l = c.before.before in
-    rw (listing-numbers _ (shown l.before.before.before.before).validation) l.list-entries.ensures))
+    rw (listing-numbers _ (shown l.before.before.before.before).validation) l.list_entries.ensures))

@@ -14,24 +14,24 @@ use Rattle.listing.proofs.listing.list_refused.Statement.{statement}
 use Rattle.listing.proofs.listing.list_refused.Tie as tie
 
 -- the length of the line
-whole : (c : tie.After-put-refused) → let n = c.before.before.before.args.refusal in length (refused_file n) ≡ 4 + length (refused_of n)
+whole : (c : tie.After-put_refused-count) → let n = c.before.before.before.args.refusal in length (refused_file n) ≡ 4 + length (refused_of n)
 whole c = length-refused-file _
 
-returns-2 : tie.Need-returns-2
+returns-2 : tie.Need-returns
 unfolding refused_file
 returns-2 c =
     let w = c.before.before in
     let word = w.before.before.before.before in
     let p = word.before.before.before.before.before in
     let a = p.before.before.before.args in
-    handed-over (refused_file a.refusal) a.out.now (omega (arith, whole p)) (laid_on _ _ (text "file") _ (refl, word.put.ensures) w.put-refused2.ensures)
+    handed-over (refused_file a.refusal) a.out.now (omega (arith, whole p.before)) (laid_on _ _ (text "file") _ (refl, word.put.ensures) w.put_refused.ensures)
 
-pub list-refused-spec : {M : Type 1} → statement M
-list-refused-spec =
+pub list_refused_spec : {M : Type 1} → statement M
+list_refused_spec =
     tie.close
     (tie.spec
     (λ c. search rules)
     (λ c κs. let n = c.before.before.args.refusal in omega (arith, length-refused n, field-short n newline))
     (λ c. left_alone _ _ (omega (arith, whole c.before.before)))
-    (λ c. search rules) (λ c κs. search rules) (λ c κs. search rules) (λ c. search rules)
+    (λ c. search rules) (λ c κs. search rules) (λ c. search rules) (λ c. search rules)
     returns-2)

@@ -9,22 +9,22 @@ use Rattle.listing.proofs.rows.put_opened.Statement.{statement}
 use Rattle.listing.proofs.rows.put_opened.Tie as tie
 
 -- from each field back to the one before it, and from the first to the function's start
-abbrev start : tie.After-put-field → tie.Start
+abbrev start : tie.After-put_field-record → tie.Start
 start c = c.before.before.before.before.before
 
-abbrev from-2 : tie.After-put-field2 → tie.After-put-field
+abbrev from-2 : tie.After-put_field-word → tie.After-put_field-record
 from-2 c = c.before.before.before.before
 
-abbrev from-3 : tie.After-put-field3 → tie.After-put-field2
+abbrev from-3 : tie.After-put_field-nword → tie.After-put_field-word
 from-3 c = c.before.before.before.before
 
-abbrev from-4 : tie.After-put-field4 → tie.After-put-field3
+abbrev from-4 : tie.After-put_field-nsec → tie.After-put_field-nword
 from-4 c = c.before.before.before.before
 
-abbrev from-5 : tie.After-put-field5 → tie.After-put-field4
+abbrev from-5 : tie.After-put_field-ldata → tie.After-put_field-nsec
 from-5 c = c.before.before.before.before
 
-abbrev from-6 : tie.After-put-field6 → tie.After-put-field5
+abbrev from-6 : tie.After-put_field → tie.After-put_field-ldata
 from-6 c = c.before.before.before.before
 
 returns : tie.Need-returns
@@ -36,11 +36,11 @@ returns c =
     let p₃ = from-4 p₄ in
     let p₂ = from-3 p₃ in
     let p₁ = from-2 p₂ in
-    laid_on _ _ _ _ p₁.put-field.ensures (laid_on _ _ _ _ p₂.put-field2.ensures (laid_on _ _ _ _ p₃.put-field3.ensures
-    (laid_on _ _ _ _ p₄.put-field4.ensures (laid_on _ _ _ _ p₅.put-field5.ensures (laid_on _ _ _ [] p₆.put-field6.ensures (laid_none _ _))))))
+    laid_on _ _ _ _ p₁.put_field-record.ensures (laid_on _ _ _ _ p₂.put_field-word.ensures (laid_on _ _ _ _ p₃.put_field-nword.ensures
+    (laid_on _ _ _ _ p₄.put_field-nsec.ensures (laid_on _ _ _ _ p₅.put_field-ldata.ensures (laid_on _ _ _ [] p₆.put_field.ensures (laid_none _ _))))))
 
-pub put-opened-spec : {M : Type 1} → statement M
-put-opened-spec =
+pub put_opened_spec : {M : Type 1} → statement M
+put_opened_spec =
     tie.close
     (tie.spec
     (λ c κs. let a = c.before.before.before.before.args in omega (arith, length-opened a.number.0 a.entered))

@@ -13,30 +13,30 @@ use Rattle.listing.proofs.rows.put_row.Statement.{statement}
 use Rattle.listing.proofs.rows.put_row.Tie as tie
 
 -- the row of an entry that opened, and of one that is refused
-opened : (c : tie.Then1) → let a = c.before.before.before.args in row_of a.number.0 a.entered ≡ opened_row a.number.0 a.entered
-opened c = row_opened _ _ c.if1.true
+opened : (c : tie.Then-entered-eq0) → let a = c.before.before.before.args in row_of a.number.0 a.entered ≡ opened_row a.number.0 a.entered
+opened c = row_opened _ _ c.if-entered-eq0.true
 
-refused : (c : tie.Else1) → let a = c.before.before.before.args in row_of a.number.0 a.entered ≡ refused_row a.number.0 a.entered.refusal
-refused c = row-refused _ _ (ne_eqb _ _ c.if1.false)
+refused : (c : tie.Else-entered-eq0) → let a = c.before.before.before.args in row_of a.number.0 a.entered ≡ refused_row a.number.0 a.entered.refusal
+refused c = row-refused _ _ (ne_eqb _ _ c.if-entered-eq0.false)
 
 -- the length of the row of one that is refused
-pieces : (c : tie.Else1) → let a = c.before.before.before.args in length (row_of a.number.0 a.entered) ≡ length (decimal_of a.number.0) + length (refused_of a.entered.refusal)
+pieces : (c : tie.Else-entered-eq0) → let a = c.before.before.before.args in length (row_of a.number.0 a.entered) ≡ length (decimal_of a.number.0) + length (refused_of a.entered.refusal)
 pieces c = ap length (refused c) ∙ length-refused-row _ _
 
-returns-2 : tie.Need-returns-2
+returns-2 : tie.Need-returns
 unfolding refused_row
 returns-2 c =
     let w = c.before.before in
     let p = w.before.before.before.before in
-    rw (refused p.before.before) (laid_on _ _ _ _ p.put-decimal.ensures w.Put-refused.ensures)
+    rw (refused p.before.before) (laid_on _ _ _ _ p.put_decimal-behind.ensures w.put_refused.ensures)
 
-pub put-row-spec : {M : Type 1} → statement M
-put-row-spec =
+pub put_row_spec : {M : Type 1} → statement M
+put_row_spec =
     tie.close
     (tie.spec
     (λ c κs. omega (arith, ap length (opened c.before)))
     (λ c. search rules)
-    (λ c. rw (opened c.before.before.before.before) c.before.before.put-opened.ensures)
+    (λ c. rw (opened c.before.before.before.before) c.before.before.put_opened.ensures)
     (λ c κs. omega (arith, pieces c.before))
     (λ c κs. omega (arith, pieces c.before.before.before.before.before))
     (λ c. search rules)

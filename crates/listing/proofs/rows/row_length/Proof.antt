@@ -5,5 +5,5 @@ use Rattle.listing.proofs.Lines.{row-short}
 use Rattle.listing.proofs.rows.row_length.Statement.{statement}
 use Rattle.listing.proofs.rows.row_length.Tie as tie
 
-pub row-length-spec : {M : Type 1} → statement M
-row-length-spec = tie.close (tie.spec (λ c. search rules) (λ c κs. omega (arith, row-short c.before.args.number.0 c.before.args.entered)) (λ c. search rules))
+pub row_length_spec : {M : Type 1} → statement M
+row_length_spec = tie.close (tie.spec (λ c. search rules) (λ c κs. omega (arith, row-short c.before.args.number.0 c.before.args.entered)) (λ c. search rules))

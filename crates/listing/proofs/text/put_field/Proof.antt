@@ -11,17 +11,17 @@ use Rattle.listing.proofs.text.put_field.Statement.{statement}
 use Rattle.listing.proofs.text.put_field.Tie as tie
 
 -- the length of the field, from the place behind its digits on
-whole : (c : tie.After-put-decimal) → let a = c.before.before.before.args in length (field_of a.n a.end) ≡ length (decimal_of a.n) + 1
+whole : (c : tie.After-put_decimal-behind) → let a = c.before.before.before.args in length (field_of a.n a.end) ≡ length (decimal_of a.n) + 1
 whole c = length-field _ _
 
 returns : tie.Need-returns
 unfolding field_of
 returns c =
     let p = c.before.before in
-    laid_on _ _ _ _ p.before.before.before.before.before.put-decimal.ensures (refl, p.put.ensures)
+    laid_on _ _ _ _ p.before.before.before.before.before.put_decimal-behind.ensures (refl, p.put.ensures)
 
-pub put-field-spec : {M : Type 1} → statement M
-put-field-spec =
+pub put_field_spec : {M : Type 1} → statement M
+put_field_spec =
     tie.close
     (tie.spec
     (λ c κs. omega (arith, length-field c.before.before.args.n c.before.before.args.end))

@@ -7,14 +7,14 @@ use Rattle.order.proofs.checking.check_order.Statement.{statement}
 use Rattle.order.proofs.checking.check_order.Tie as tie
 
 -- the place behind the call that validates, and what the numbers that it gave show
-abbrev called : tie.After-case → tie.After-admit
-called c = c.before.before.before
+abbrev called : tie.In-Numbers → tie.After-admit-case
+called c = c.before.before
 
-shown : (c : tie.After-case) → let a = called c in Admits a.before.before.before.args.file.now c.case.given.0.0 a.admit.last.1.0
-shown c = let a = (called c).admit in case-told _ a.result a.ensures.0 a.ensures.1 c.case.given.1
+shown : (c : tie.In-Numbers) → let a = called c in Admits a.before.before.before.args.file.now c.in-Numbers.d a.admit-case.new.totals
+shown c = let a = (called c).admit-case in case-told _ a.result a.ensures.0 a.ensures.1 c.in-Numbers.is
 
-pub check-order-spec : {M : Type 1} → statement M
-check-order-spec =
+pub check_order_spec : {M : Type 1} → statement M
+check_order_spec =
     tie.close
     (tie.spec
     (λ c. search rules)
@@ -24,8 +24,8 @@ check-order-spec =
     (λ c κs. search rules)
     (λ c.
     let t = c.before in
-    let a = t.before.before.before.admit in
-    check-refused _ (case-left _ a.result a.ensures.0 c.refusal-of.ensures t.enum_told.given.1).validation)
+    let a = t.before.before.admit-case in
+    check-refused _ (case-left _ a.result a.ensures.0 c.refusal_of.ensures t.in_default.is).validation)
     (λ c. search rules)
-    (λ c κs. let p = shown c.before.before in (p.admitted, p.table))
-    (λ c. c.check-entries.ensures ∙ check-numbers _ (shown c.before.before.before).validation))
+    (λ c κs. let p = shown c.before in (p.admitted, p.table))
+    (λ c. c.check_entries.ensures ∙ check-numbers _ (shown c.before.before).validation))

@@ -15,104 +15,104 @@ use Rattle.order.proofs.Checks.{Passing, passing-none, passing-all, fails-openin
 use Rattle.order.proofs.inner.check_entries.Statement.{statement}
 use Rattle.order.proofs.inner.check_entries.Tie as tie
 
-abbrev invariant-loop : tie.invariant-loop
+abbrev invariant-loop : tie.invariant-loop-passed
 invariant-loop file d totals entries at₀ passed₀ before₀ at passed before =
     Passing file d (addresses_of file d.nex) entries passed before × (at ≡ standing_of d (addresses_of file d.nex) (record { 0 = passed }))
 
-abbrev decreases-loop : tie.decreases-loop
+abbrev decreases-loop : tie.decreases-loop-passed
 decreases-loop file d totals entries at₀ passed₀ before₀ at passed before = entries - passed
 
 -- the places of a turn, each made of the one that follows: its begin, behind its open, and behind its two tests
-abbrev begin : tie.At-loop invariant-loop decreases-loop → tie.Start invariant-loop decreases-loop
-begin c = c.before.before.before.before.before
+abbrev begin : tie.At-loop-passed invariant-loop decreases-loop → tie.Start invariant-loop decreases-loop
+begin c = c.before.before.before.before.before.before
 
-abbrev turn : tie.After-standing-next invariant-loop decreases-loop → tie.In-loop invariant-loop decreases-loop
+abbrev turn : tie.After-standing_next-at invariant-loop decreases-loop → tie.In-loop-passed invariant-loop decreases-loop
 turn c = c.before
 
-abbrev entered : tie.Else1 invariant-loop decreases-loop → tie.After-enter-at invariant-loop decreases-loop
+abbrev entered : tie.Else-entered-ne0 invariant-loop decreases-loop → tie.After-enter_at-entered invariant-loop decreases-loop
 entered c = c.before.before
 
-abbrev started : tie.After-ends-in-order invariant-loop decreases-loop → tie.Else2 invariant-loop decreases-loop
+abbrev started : tie.After-ends_in_order invariant-loop decreases-loop → tie.Else-not-starts_in_order invariant-loop decreases-loop
 started c = c.before.before
 
-abbrev number : tie.At-loop invariant-loop decreases-loop → EntryNumber
-number c = record { 0 = c.loop.passed + 1 }
+abbrev number : tie.At-loop-passed invariant-loop decreases-loop → EntryNumber
+number c = record { 0 = c.loop-passed.passed + 1 }
 
 -- the next entry is in use
-used : (c : tie.In-loop invariant-loop decreases-loop) → let a = (begin c.before).args in InUse a.file.now a.d (number c.before)
+used : (c : tie.In-loop-passed invariant-loop decreases-loop) → let a = (begin c.before).args in InUse a.file.now a.d (number c.before)
 used c =
     let l = c.before in
-    record { admitted = (begin l).requires.0; low = omega arith; high = omega (arith, c.loop-test.true, l.before.before.entries-before.ensures) }
+    record { admitted = (begin l).requires.0; low = omega arith; high = omega (arith, c.loop-passed-test.true, l.before.before.entries_before-entries.ensures) }
 
 -- the standing carried is that of the entry before it
-follows : (c : tie.In-loop invariant-loop decreases-loop) → let l = c.before in let a = (begin l).args in Follows a.file.now a.d (number l) l.loop.at
+follows : (c : tie.In-loop-passed invariant-loop decreases-loop) → let l = c.before in let a = (begin l).args in Follows a.file.now a.d (number l) l.loop-passed.at
 follows c =
     let l = c.before in
     let a = (begin l).args in
-    let last : l.loop.passed ≡ l.loop.passed + 1 - 1 = sym (add-sub_cancel l.loop.passed 1) in
-    record { used = used c; stands = l.loop.invariant.1 ∙ ap (λ n. standing_of a.d (addresses_of a.file.now a.d.nex) (record { 0 = n })) last }
+    let last : l.loop-passed.passed ≡ l.loop-passed.passed + 1 - 1 = sym (add-sub_cancel l.loop-passed.passed 1) in
+    record { used = used c; stands = l.loop-passed.invariant.1 ∙ ap (λ n. standing_of a.d (addresses_of a.file.now a.d.nex) (record { 0 = n })) last }
 
 -- and the next is its own
-stands : (c : tie.After-standing-next invariant-loop decreases-loop) → let l = (turn c).before in let a = (begin l).args in StandsIn a.file.now a.d (number l) c.standing-next.result
-stands c = record { used = used (turn c); stands = c.standing-next.ensures }
+stands : (c : tie.After-standing_next-at invariant-loop decreases-loop) → let l = (turn c).before in let a = (begin l).args in StandsIn a.file.now a.d (number l) c.standing_next-at.result
+stands c = record { used = used (turn c); stands = c.standing_next-at.ensures }
 
 -- what the open shows of the entry
-shown : (c : tie.Else1 invariant-loop decreases-loop) → let l = (entered c).before.before.before in let a = (begin l).args in Known a.file.now a.d (number l) (entered c).enter-at.result
+shown : (c : tie.Else-entered-ne0 invariant-loop decreases-loop) → let l = (entered c).before.before.before in let a = (begin l).args in Known a.file.now a.d (number l) (entered c).enter_at-entered.result
 shown c =
     let x = entered c in
     let s = begin x.before.before.before in
-    known _ _ _ _ x.enter-at.result s.pre.0.admitted x.enter-at.ensures c.if1.false
+    known _ _ _ _ x.enter_at-entered.result s.requires.0.admitted x.enter_at-entered.ensures c.if-entered-ne0.false
 
-returns : tie.Need-returns invariant-loop decreases-loop
+returns : tie.Need-returns-then-entered-ne0 invariant-loop decreases-loop
 returns c =
     let x = c.before.before in
-    fails-opening _ _ _ x.before.before.before.loop.invariant.0 x.before.before.loop-test.true x.enter-at.result x.enter-at.ensures (ne_eqb x.enter-at.result.refusal 0 c.if1.true)
+    fails-opening _ _ _ x.before.before.before.loop-passed.invariant.0 x.before.before.loop-passed-test.true x.enter_at-entered.result x.enter_at-entered.ensures (ne_eqb x.enter_at-entered.result.refusal 0 c.if-entered-ne0.true)
 
-returns-2 : tie.Need-returns-2 invariant-loop decreases-loop
+returns-2 : tie.Need-returns-then-not-starts_in_order invariant-loop decreases-loop
 returns-2 c =
     let t = c.before in
     let x = entered t.before in
-    fails-start _ _ _ x.before.before.before.loop.inv.0 x.before.before.loop-test.taken x.enter-at.result x.enter-at.ensures t.before.if1.false t.starts-in-order.ensures c.if2.true
+    fails-start _ _ _ x.before.before.before.loop-passed.invariant.0 x.before.before.loop-passed-test.true x.enter_at-entered.result x.enter_at-entered.ensures t.before.if-entered-ne0.false t.starts_in_order.ensures c.if-not-starts_in_order.true
 
-returns-3 : tie.Need-returns-3 invariant-loop decreases-loop
+returns-3 : tie.Need-returns-then-not-ends_in_order invariant-loop decreases-loop
 returns-3 c =
     let e = started c.before in
     let t = e.before in
     let x = entered t.before in
-    fails-end _ _ _ x.before.before.before.loop.inv.0 x.before.before.loop-test.taken x.enter-at.result x.enter-at.ensures t.before.if1.left t.starts-in-order.ensures e.if2.left
-    c.before.ends-in-order.ensures c.if3.true
+    fails-end _ _ _ x.before.before.before.loop-passed.invariant.0 x.before.before.loop-passed-test.true x.enter_at-entered.result x.enter_at-entered.ensures t.before.if-entered-ne0.false t.starts_in_order.ensures e.if-not-starts_in_order.false
+    c.before.ends_in_order.ensures c.if-not-ends_in_order.true
 
-loop-again : tie.Need-loop-preserved invariant-loop decreases-loop
+loop-again : tie.Need-loop-passed-preserved invariant-loop decreases-loop
 loop-again c =
     let e = started c.before in
     let t = e.before in
     let x = entered t.before in (
-      passes _ _ _ x.before.before.before.loop.inv.0 x.before.before.loop-test.taken x.enter-at.result x.enter-at.ensures t.before.if1.left t.starts-in-order.ensures e.if2.left
-          c.before.ends-in-order.ensures c.if3.false,
-      x.before.standing-next.ensures,
+      passes _ _ _ x.before.before.before.loop-passed.invariant.0 x.before.before.loop-passed-test.true x.enter_at-entered.result x.enter_at-entered.ensures t.before.if-entered-ne0.false t.starts_in_order.ensures e.if-not-starts_in_order.false
+          c.before.ends_in_order.ensures c.if-not-ends_in_order.false,
+      x.before.standing_next-at.ensures,
     )
 
-pub check-entries-spec : {M : Type 1} → statement M
-check-entries-spec =
+pub check_entries_spec : {M : Type 1} → statement M
+check_entries_spec =
     tie.close
     (tie.spec
     invariant-loop
     decreases-loop
     (λ c κs. c.before.before.requires.0.admitted.counted)
     (λ c κs. search rules)
-    (λ c. (passing-none _ _ _ c.before.entries-before.ensures, c.no-standing.ensures ∙ sym (standing-none _ _)))
+    (λ c. (passing-none _ _ _ c.before.entries_before-entries.ensures, c.no_standing-at.ensures ∙ sym (standing-none _ _)))
     (λ c. omega arith)
-    (λ c κs. (follows c, (begin c.before).pre.1))
+    (λ c κs. (follows c, (begin c.before).requires.1))
     (λ c κs.
     let u = used (turn c) in
-    (u.admitted, u.low, u.high, ap (λ (s : Standing). s.slot) c.standing-next.ensures ∙ standing-slot _ _ (number (turn c).before) u.low))
+    (u.admitted, u.low, u.high, ap (λ (s : Standing). s.slot) c.standing_next-at.ensures ∙ standing-slot _ _ (number (turn c).before) u.low))
     returns
     (λ c κs. stands (entered c).before)
     returns-2
-    (λ c. let o = c.before.before.before in omega (arith, (shown o).ends, (begin (entered o).before.before.before).pre.0.admitted.lent.high))
+    (λ c. let o = c.before.before.before in omega (arith, (shown o).ends, (begin (entered o).before.before.before).requires.0.admitted.lent.high))
     (λ c κs. stands (entered c.before.before.before).before)
     returns-3
-    (λ c. omega (arith, (entered (started c.before).before.before).before.before.loop-test.taken))
-    (λ c. omega (arith, (entered (started c.before).before.before).before.before.loop-test.taken))
+    (λ c. omega (arith, (entered (started c.before).before.before).before.before.loop-passed-test.true))
+    (λ c. omega (arith, (entered (started c.before).before.before).before.before.loop-passed-test.true))
     loop-again
-    (λ c. passing-all _ _ _ c.before.loop.invariant.0 (omega arith)))
+    (λ c. passing-all _ _ _ c.before.loop-passed.invariant.0 (omega arith)))

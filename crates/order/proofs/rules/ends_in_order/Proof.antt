@@ -15,34 +15,34 @@ use Rattle.order.proofs.rules.ends_in_order.Statement.{statement}
 use Rattle.order.proofs.rules.ends_in_order.Tie as tie
 
 -- the places behind the two tests, and where the function begins
-abbrev begin : tie.Else1 → tie.Start
+abbrev begin : tie.Else-number-at → tie.Start
 begin c = c.before.before.before.before
 
-abbrev last : tie.Else2 → tie.Else1
+abbrev last : tie.Else-d-at → tie.Else-number-at
 last c = c.before.before.before
 
-abbrev border : tie.After-aex-in → tie.Else2
-border c = c.before.before
+abbrev border : tie.After-aex_in-next → tie.Else-d-at
+border c = c.before.before.before
 
 -- the next area starts where the file says
-first : (c : tie.After-aex-in) → let a = (begin (last (border c))).args in c.aex-in.result ≡ aex_of (addresses_of a.file.now a.d.nex) (a.at.extension.0 + 1)
-first c = let s = begin (last (border c)) in area-read s.args.file.now s.args.d s.pre.used.admitted _ (omega arith) (omega (arith, (border c).if2.false)) c.aex-in.ensures
+first : (c : tie.After-aex_in-next) → let a = (begin (last (border c))).args in c.aex_in-next.result ≡ aex_of (addresses_of a.file.now a.d.nex) (a.at.extension.0 + 1)
+first c = let s = begin (last (border c)) in area-read s.args.file.now s.args.d s.requires.used.admitted _ (omega arith) (omega (arith, (border c).if-d-at.false)) c.aex_in-next.ensures
 
-pub ends-in-order-spec : {M : Type 1} → statement M
-ends-in-order-spec =
+pub ends_in_order_spec : {M : Type 1} → statement M
+ends_in_order_spec =
     tie.close
     (tie.spec
-    (λ c. sym (ends-other _ _ c.before.before.before.before.requires _ c.if1.true))
-    (λ c. let l = c.before.before.before in sym (ends-all _ _ (begin l).requires _ l.if1.false c.if2.true))
+    (λ c. sym (ends-other _ _ c.before.before.before.before.requires _ c.if-number-at.true))
+    (λ c. let l = c.before.before.before in sym (ends-all _ _ (begin l).requires _ l.if-number-at.false c.if-d-at.true))
     (λ c. search rules)
     (λ c κs. search rules)
     (λ c κs.
     let s = begin (last (border c)) in
-    let a = s.pre.used.admitted.admitted in
-    rw (first c) (omega (arith, area-first (length s.args.file.now) s.args.d _ a (s.args.at.extension.0 + 1) (omega arith) (omega (arith, (border c).if2.false)), a.settled.reclen-high)))
+    let a = s.requires.used.admitted.admitted in
+    rw (first c) (omega (arith, area-first (length s.args.file.now) s.args.d _ a (s.args.at.extension.0 + 1) (omega arith) (omega (arith, (border c).if-d-at.false)), a.settled.reclen-high)))
     (λ c.
     let x = c.before in
     let l = last (border x) in
     let s = begin l in
     let next = c.position.ensures ∙ ap (λ (r : RecordNumber). position_of s.args.d.reclen r (record { 0 = 1 })) (first x) in
-    ap (leb s.args.end) next ∙ sym (ends_last _ _ s.pre _ l.if1.left (border x).if2.false)))
+    ap (leb s.args.end) next ∙ sym (ends_last _ _ s.requires _ l.if-number-at.false (border x).if-d-at.false)))

@@ -12,10 +12,10 @@ returns c =
     let tail = c.before.before in
     let skipped = tail.before.before.before.before in
     let a = skipped.before.before.before.args in
-    tail.clear-words2.ensures ∙ (λ i. writes (skipped.clear-words.ensures i) (clear a.slot-end a.to ∷ []))
+    tail.clear_words-2.ensures ∙ (λ i. writes (skipped.clear_words.ensures i) (clear a.slot_end a.to ∷ []))
 
-pub clear-around-spec : {M : Type 1} → statement M
-clear-around-spec =
+pub clear_around_spec : {M : Type 1} → statement M
+clear_around_spec =
     tie.close
     (tie.spec
     (λ c κs. search rules)

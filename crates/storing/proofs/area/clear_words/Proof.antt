@@ -6,8 +6,8 @@ use Rattle.storing.proofs.area.clear_words.Tie as tie
 returns : tie.Need-returns
 returns c = cc
 
-pub clear-words-spec : {M : Type 1} → statement M
-clear-words-spec =
+pub clear_words_spec : {M : Type 1} → statement M
+clear_words_spec =
     tie.close
     (tie.spec
     (λ c κs. search rules)

@@ -7,14 +7,14 @@ use Rattle.geometry.specs.declared.units.EntryAddress.{EntryAddress}
 use Rattle.storing.proofs.head.adata_of.Statement.{statement}
 use Rattle.storing.proofs.head.adata_of.Tie as tie
 
-returns : tie.Need-returns
-returns c = rw (eq-eqb c.before.args.ldata 0 c.if1.true)
+returns : tie.Need-returns-then-ldata-eq0
+returns c = rw (eq-eqb c.before.args.ldata 0 c.if-ldata-eq0.true)
 
-add-t6 : tie.Need-overflow-add-t6
-add-t6 c = omega (arith, ap (λ (a : EntryAddress). a.0) c.before.first-content.ensures)
+add-t6 : tie.Need-overflow_add-result
+add-t6 c = omega (arith, ap (λ (a : EntryAddress). a.0) c.before.first_content.ensures)
 
-returns-2 : tie.Need-returns-2
-returns-2 c = rw (c.before.first-content.ensures, ne_eqb c.before.before.before.args.ldata 0 c.before.before.if1.false)
+returns-2 : tie.Need-returns
+returns-2 c = rw (c.before.first_content.ensures, ne_eqb c.before.before.before.args.ldata 0 c.before.before.if-ldata-eq0.false)
 
-pub adata-of-spec : {M : Type 1} → statement M
-adata-of-spec = tie.close (tie.spec returns (λ c κs. search rules) add-t6 returns-2)
+pub adata_of_spec : {M : Type 1} → statement M
+adata_of_spec = tie.close (tie.spec returns (λ c κs. search rules) add-t6 returns-2)

@@ -7,7 +7,7 @@ use Rattle.storing.proofs.head.head_of.Tie as tie
 
 returns : tie.Need-returns
 unfolding head_from
-returns c = rw (to_z-of_z c.before.before.ranges.version, c.adata-of.ensures, c.before.descriptor-words.ensures)
+returns c = rw (to_z-of_z c.before.before.ranges.version, c.adata_of.ensures, c.before.descriptor_words.ensures)
 
-pub head-of-spec : {M : Type 1} → statement M
-head-of-spec = tie.close (tie.spec (λ c κs. search rules) (λ c. search rules) (λ c. search rules) (λ c κs. search rules) returns)
+pub head_of_spec : {M : Type 1} → statement M
+head_of_spec = tie.close (tie.spec (λ c κs. search rules) (λ c. search rules) (λ c. search rules) (λ c κs. search rules) returns)

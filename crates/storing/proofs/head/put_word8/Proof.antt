@@ -6,7 +6,7 @@ use Rattle.storing.proofs.head.put_word8.Tie as tie
 returns : tie.Need-returns
 returns c = cc
 
-pub put-word8-spec : {M : Type 1} → statement M
-put-word8-spec =
+pub put_word8_spec : {M : Type 1} → statement M
+put_word8_spec =
     tie.close
     (tie.spec (λ c κs. search rules) (λ c κs. search rules) (λ c κs. search rules) (λ c. search rules) returns)

@@ -6,8 +6,8 @@ use Rattle.storing.proofs.steps.put_slot.Tie as tie
 returns : tie.Need-returns
 returns c = cc
 
-pub put-slot-spec : {M : Type 1} → statement M
-put-slot-spec =
+pub put_slot_spec : {M : Type 1} → statement M
+put_slot_spec =
     tie.close
     (tie.spec
     (λ c κs. search rules)

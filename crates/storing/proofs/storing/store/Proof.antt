@@ -16,25 +16,25 @@ use Rattle.storing.proofs.storing.store.Statement.{statement}
 use Rattle.storing.proofs.storing.store.Tie as tie
 
 -- the places on the way, each from the one behind it
-abbrev began : tie.After-new-slot → tie.Start
-began c = let p : tie.After-new-slot-arg = c.before in p.before.before.before.before.before.before
+abbrev began : tie.After-new_slot-slot → tie.Start
+began c = c.before.before.before.before.before.before
 
-abbrev slot-found : tie.After-put-descriptor → tie.After-new-slot
-slot-found c = c.before.before
+abbrev slot-found : tie.After-put_descriptor → tie.After-new_slot-slot
+slot-found c = c.before.before.before
 
-abbrev descriptor-put : tie.After-put-content → tie.After-put-descriptor
+abbrev descriptor-put : tie.After-put_content → tie.After-put_descriptor
 descriptor-put c = c.before.before.before.before.before
 
-abbrev content-put : tie.After-place-at → tie.After-put-content
-content-put c = let p : tie.After-put-slot-arg = c.before in p.before.before.before
+abbrev content-put : tie.After-place_at → tie.After-put_content
+content-put c = let p : tie.After-put_slot-arg-1 = c.before.before in p.before.before.before
 
-abbrev slot-put : tie.After-put-rest → tie.After-put-slot
+abbrev slot-put : tie.After-put_rest → tie.After-put_slot
 slot-put c = c.before.before.before.before
 
-abbrev rest_put : tie.After-numbers-after → tie.After-put-rest
-rest_put c = let p : tie.After-put-counts-arg = c.before.before.before in p.before.before.before
+abbrev rest_put : tie.After-numbers_after → tie.After-put_rest
+rest_put c = let p : tie.After-put_counts-arg-1 = c.before.before.before in p.before.before.before
 
-abbrev first : tie.After-put-slot → tie.Start
+abbrev first : tie.After-put_slot → tie.Start
 first c = began (slot-found (descriptor-put (content-put c.before)))
 
 -- what is handed in
@@ -42,50 +42,50 @@ abbrev handed : tie.Start → Handed
 handed s = handed_in s.args.head.version s.args.index.now s.args.ids.now s.args.lengths.now s.args.sections.now s.args.values.now
 
 -- each step keeps the file's length
-after-content : (c : tie.After-put-content) → length c.put-content.new.0 ≡ length (began (slot-found (descriptor-put c))).args.file.now
-after-content c = c.put-content.auto.0 ∙ (descriptor-put c).put-descriptor.auto.1.0
+after-content : (c : tie.After-put_content) → length c.put_content.new.file ≡ length (began (slot-found (descriptor-put c))).args.file.now
+after-content c = c.put_content.auto.file ∙ (descriptor-put c).put_descriptor.auto.file
 
-after-slot : (c : tie.After-put-slot) → length c.put-slot.new.1.0 ≡ length (first c).args.file.now
-after-slot c = c.put-slot.auto.1.0 ∙ after-content (content-put c.before)
+after-slot : (c : tie.After-put_slot) → length c.put_slot.new.file ≡ length (first c).args.file.now
+after-slot c = c.put_slot.auto.file ∙ after-content (content-put c.before)
 
-after-rest : (c : tie.After-put-rest) → length c.put_rest.new.0 ≡ length (first (slot-put c)).args.file.now
-after-rest c = c.put_rest.auto.0 ∙ after-slot (slot-put c)
+after-rest : (c : tie.After-put_rest) → length c.put_rest.new.file ≡ length (first (slot-put c)).args.file.now
+after-rest c = c.put_rest.auto.file ∙ after-slot (slot-put c)
 
-new-slot-requires : tie.Need-new-slot-requires
+new-slot-requires : tie.Need-new_slot-slot-requires
 new-slot-requires c κs =
-    let s = c.before.before.before.before.before.before in
+    let s = c.before.before.before.before.before in
     let q = s.requires.0 in
     (record { admitted = q.accepted.admitted; order = q.order }, s.requires.1, extends-placed _ _ _ _ _ q, q.accepted.extensible)
 
-put-descriptor-requires : tie.Need-put-descriptor-requires
-put-descriptor-requires c κs = describing _ _ _ _ _ (began c.before).requires.0
+put-descriptor-requires : tie.Need-put_descriptor-requires
+put-descriptor-requires c κs = describing _ _ _ _ _ (began c.before.before).requires.0
 
-first-content-requires : tie.Need-first-content-requires
+first-content-requires : tie.Need-first_content-requires
 first-content-requires c κs =
     let q = (began (slot-found c.before.before.before)).requires.0 in
     omega (arith, nsec-headed _ _ _ _ _ q, q.accepted.fitting.few)
 
-put-content-requires : tie.Need-put-content-requires
+put-content-requires : tie.Need-put_content-requires
 put-content-requires c κs =
     let p = c.before.before.before.before in
-    let inside = content-inside _ _ _ _ _ (began (slot-found p)).requires.0 c.first-content.result c.first-content.ensures in
-    (inside.0, inside.1, rw p.put-descriptor.auto.1.0 inside.2)
+    let inside = content-inside _ _ _ _ _ (began (slot-found p)).requires.0 c.first_content.result c.first_content.ensures in
+    (inside.0, inside.1, rw p.put_descriptor.auto.file inside.2)
 
-place-at-requires : tie.Need-place-at-requires
+place-at-requires : tie.Need-place_at-requires
 place-at-requires c κs =
-    let q = (began (slot-found (descriptor-put c.before.before.before))).requires.0 in
+    let q = (began (slot-found (descriptor-put c.before.before.before.before))).requires.0 in
     omega (arith, start_small _ _ _ _ _ q, q.accepted.admitted.settled.reclen-low, q.accepted.admitted.settled.reclen-high)
 
-put-slot-requires : tie.Need-put-slot-requires
+put-slot-requires : tie.Need-put_slot-requires
 put-slot-requires c κs =
     let p = content-put c in
     let n = slot-found (descriptor-put p) in
-    let q = (began n).pre.0 in
-    let room = slot_placed _ _ _ _ _ q n.new-slot.result n.new-slot.ensures in
+    let q = (began n).requires.0 in
+    let room = slot_placed _ _ _ _ _ q n.new_slot-slot.result n.new_slot-slot.ensures in
     let word = word_small _ _ _ _ _ q in
     (room.0, rw c.place_at.ensures (omega arith), rw (after-content p) room.1)
 
-put-rest-requires : tie.Need-put-rest-requires
+put-rest-requires : tie.Need-put_rest-requires
 put-rest-requires c κs =
     let p = c.before.before.before in
     let q = (first p).requires.0 in
@@ -105,24 +105,24 @@ put-rest-requires c κs =
 end : (s : tie.Start) → s.args.placed.start + s.args.head.nword ≤ 2 ^ 28
 end s = let q = s.requires.0 in omega (arith, end-placed _ _ _ _ _ q, start-placed _ _ _ _ _ q, start_small _ _ _ _ _ q)
 
-numbers-after-requires : tie.Need-numbers-after-requires
+numbers-after-requires : tie.Need-numbers_after-requires
 numbers-after-requires c κs =
     let s = first (slot-put c.before.before.before.before.before) in
-    let q = s.pre.0 in
+    let q = s.requires.0 in
     let a = q.accepted.admitted in
     (a.settled, xnext-small _ _ _ a, extends-placed _ _ _ _ _ q, omega (arith, end s))
 
-put-counts-requires : tie.Need-put-counts-requires
+put-counts-requires : tie.Need-put_counts-requires
 put-counts-requires c κs =
     let p = rest_put c in
     let s = first (slot-put p) in
-    let q = s.pre.0 in
+    let q = s.requires.0 in
     let a = q.accepted.admitted in
     let word = word_after _ _ _ _ _ q (s.args.placed.start + s.args.head.nword) in
     (rw c.numbers_after.ensures (omega arith), omega (arith, a.lent.first, a.settled.reclen-low, after-rest p))
 
-same_length : tie.Need-same-length
-same_length c = let p = c.before.before in omega (arith, p.put-counts.auto.0, after-rest (rest_put p.before))
+same_length : tie.Need-shape_of-file
+same_length c = let p = c.before.before in omega (arith, p.put_counts.auto.file, after-rest (rest_put p.before))
 
 returns : tie.Need-returns
 unfolding numbers_after
@@ -138,11 +138,11 @@ returns c =
     let d = a.d in
     let p = a.placed in
     let last = p.start + a.head.nword in
-    let filled = content.put-content.ensures
-    ∙ (λ i. writes (described.put-descriptor.ensures i) (pieces_writes p.start (content.before.first-content.ensures i) a.sections.now a.values.now)) in
-    let slot = found.new-slot.ensures ∙ slot_same _ _ _ _ _ s.pre.0 last in
-    let indexed = put.put-slot.ensures ∙ (λ i. writes (filled i) (slot_writes d.order (slot i) (put.before.place_at.ensures i) a.index.now)) in
-    counts.put-counts.ensures
+    let filled = content.put_content.ensures
+    ∙ (λ i. writes (described.put_descriptor.ensures i) (pieces_writes p.start (content.before.first_content.ensures i) a.sections.now a.values.now)) in
+    let slot = found.new_slot-slot.ensures ∙ slot_same _ _ _ _ _ s.requires.0 last in
+    let indexed = put.put_slot.ensures ∙ (λ i. writes (filled i) (slot_writes d.order (slot i) (put.before.place_at.ensures i) a.index.now)) in
+    counts.put_counts.ensures
     ∙ (λ i. writes ((rest.put_rest.ensures ∙ (λ j. writes (indexed j) (rest_writes d))) i) (count_writes (counts.before.numbers_after.ensures i)))
     ∙ sym (writes-append _ (rest_writes d) (count_writes (numbers_after d last)))
 

@@ -10,27 +10,27 @@ use Rattle.storing.proofs.TableBytes.{integer-table, Passed, passed_none, passed
 use Rattle.storing.proofs.tables.put_identifiers.Statement.{statement}
 use Rattle.storing.proofs.tables.put_identifiers.Tie as tie
 
-abbrev invariant-loop : tie.invariant-loop
+abbrev invariant-loop : tie.invariant-loop-done
 invariant-loop order file₀ position ids done₀ file done = Passed (integer-table order integer4) file₀ (offset_of position) 0 ids done file
 
-abbrev decreases-loop : tie.decreases-loop
+abbrev decreases-loop : tie.decreases-loop-done
 decreases-loop order file₀ position ids done₀ file done = length ids - done
 
-loop-again : tie.Need-loop-preserved invariant-loop decreases-loop
+loop-again : tie.Need-loop-done-preserved invariant-loop decreases-loop
 loop-again c =
     let p = c.before.before in
     let t = p.before.before.before.before.before in
-    let l = t.loop in
+    let l = t.loop-done in
     let a = t.before.before.args in
-    let read = read_back integer4 a.ids.now l.done p.before.before.before.identifier.given in
-    passed-next (integer-table a.order integer4) a.file.now (offset_of a.position) 0 a.ids.now l.done l.file p.put-i32.new.1.0 p.before.byte-offset.result
-    (omega arith) l.invariant (omega arith) (omega arith) (rw read at p.put-i32.ensures)
+    let read = read_back integer4 a.ids.now l.done p.before.before.before.identifier-1.given in
+    passed-next (integer-table a.order integer4) a.file.now (offset_of a.position) 0 a.ids.now l.done l.file p.put_i32.new.image p.before.byte_offset.result
+    (omega arith) l.invariant (omega arith) (omega arith) (rw read at p.put_i32.ensures)
 
 returns : tie.Need-returns invariant-loop decreases-loop
-returns c = passed-all (integer-table c.before.before.before.args.order integer4) _ _ 0 c.before.before.before.args.ids.now _ _ c.loop-test.false c.before.loop.invariant
+returns c = passed-all (integer-table c.before.before.before.args.order integer4) _ _ 0 c.before.before.before.args.ids.now _ _ c.loop-done-test.false c.before.loop-done.invariant
 
-pub put-identifiers-spec : {M : Type 1} → statement M
-put-identifiers-spec =
+pub put_identifiers_spec : {M : Type 1} → statement M
+put_identifiers_spec =
     tie.close
     (tie.spec
     invariant-loop

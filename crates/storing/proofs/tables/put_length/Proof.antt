@@ -14,11 +14,11 @@ returns c =
     let p = c.before.before in
     let w = p.before.before.before in
     let a = w.before.before.args in
-    let at : p.before.byte-offset.result ≡ offset_of a.position + 8 * a.i = omega (arith, p.before.byte-offset.ensures) in
-    rw (read_back integer8 a.lengths.now a.i w.words.given, at) at p.put-i64.ensures
+    let at : p.before.byte_offset.result ≡ offset_of a.position + 8 * a.i = omega (arith, p.before.byte_offset.ensures) in
+    rw (read_back integer8 a.lengths.now a.i w.words-1.given, at) at p.put_i64.ensures
 
-pub put-length-spec : {M : Type 1} → statement M
-put-length-spec =
+pub put_length_spec : {M : Type 1} → statement M
+put_length_spec =
     tie.close
     (tie.spec
     (λ c. search rules)

@@ -39,7 +39,7 @@ placed : (c : tie.After-section-part) → let s = began (passed c.before).before
 placed c =
     let p = passed c.before in
     let s = began p.before in
-    rw (to_z-of_z s.fits.identifier) at c.section-part.ensures ∙ section-named s.args.file.now s.args.held (true-there p) (over s)
+    rw (to_z-of_z {w = w32} s.ranges.identifier) at c.section-part.ensures ∙ section-named s.args.file.now s.args.held (true-there p) (over s)
 
 update-at-requires : tie.Need-update-at-requires
 update-at-requires c κs =

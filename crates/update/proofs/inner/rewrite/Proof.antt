@@ -18,9 +18,9 @@ returns c =
     let rest = zeros (s.args.space - length content) in
     let last = c.before.before.zero in
     let first = c.before.before.before.before.before.before.put in
-    let zeroed : last.new.0 ≡ splice first.new.0 behind rest = last.ensures in
-    let copied : first.new.0 ≡ splice file s.args.start content = first.ensures in
+    let zeroed : last.new.image ≡ splice first.new.image behind rest = last.ensures in
+    let copied : first.new.image ≡ splice file s.args.start content = first.ensures in
     zeroed ∙ ap (λ (f : List ℕ). splice f behind rest) copied ∙ splice-adjacent file s.args.start content behind rest refl
 
-pub rewrite-spec : {M : Type 1} → statement M
-rewrite-spec = tie.close (tie.spec (λ c κs. search rules) (λ c. search rules) (λ c. search rules) (λ c κs. search rules) (λ c. search rules) returns)
+pub rewrite_spec : {M : Type 1} → statement M
+rewrite_spec = tie.close (tie.spec (λ c κs. search rules) (λ c. search rules) (λ c. search rules) (λ c κs. search rules) (λ c. search rules) returns)

@@ -10,45 +10,45 @@ use Rattle.update.proofs.inner.update_at.Statement.{statement}
 use Rattle.update.proofs.inner.update_at.Tie as tie
 
 -- where the function begins, before anything is known of its slices
-abbrev begin : tie.After-struct-known → tie.Start
+abbrev begin : tie.After-struct_known-1 → tie.Start
 begin c = c.before.before.before
 
-returns : tie.Need-returns
+returns : tie.Need-returns-then-place-ne0
 returns c =
     let a = (begin c.before).args in
-    let d = c.if1.true in
+    let d = c.if-place-ne0.true in
     refused a.place a.content.now a.file.now (sym (place-first a.place a.content.now d)) d
 
 -- where the place is given, the answer is that of the content
-tests : (c : tie.After-content-refusal) → let a = (begin c.before.before.before).args in c.content-refusal.result ≡ update_at a.place a.content.now
+tests : (c : tie.After-content_refusal-refusal) → let a = (begin c.before.before.before).args in c.content_refusal-refusal.result ≡ update_at a.place a.content.now
 tests c =
     let given = c.before.before in
     let a = (begin given.before).args in
-    c.content-refusal.ensures ∙ sym (content-next a.place a.content.now given.if1.false)
+    c.content_refusal-refusal.ensures ∙ sym (content-next a.place a.content.now given.if-place-ne0.false)
 
-returns-2 : tie.Need-returns-2
+returns-2 : tie.Need-returns-then-refusal-ne0
 returns-2 c =
     let a = (begin c.before.before.before.before).args in
-    refused a.place a.content.now a.file.now (tests c.before) c.if2.true
+    refused a.place a.content.now a.file.now (tests c.before) c.if-refusal-ne0.true
 
 rewrite-requires : tie.Need-rewrite-requires
 rewrite-requires c κs =
     let tested = c.before.before in
     let s = begin tested.before.before.before in
-    let fits = content-fits (length s.args.content.now) (space_of s.args.place) (sym tested.content-refusal.ensures ∙ c.before.if2.false) in
-    let inside = s.pre in
+    let fits = content-fits (length s.args.content.now) (space_of s.args.place) (sym tested.content_refusal-refusal.ensures ∙ c.before.if-refusal-ne0.false) in
+    let inside = s.requires in
     (omega (arith, inside.ordered, inside.ends, fits.1), omega (arith, fits.1), omega (arith, inside.whole, fits.0), omega (arith, fits.0), omega (arith, inside.small, fits.1))
 
-returns-3 : tie.Need-returns-3
+returns-3 : tie.Need-returns
 returns-3 c =
     let wrote = c.before.before in
     let passed = wrote.before.before in
     let tested = passed.before in
     let a = (begin tested.before.before.before).args in
-    let rewritten : wrote.rewrite.new.0 ≡ splice a.file.now a.place.start (padded a.content.now (space_of a.place)) = wrote.rewrite.ensures in
-    let done = not-refused a.place a.content.now a.file.now (sym (tests tested) ∙ passed.if2.false) in
+    let rewritten : wrote.rewrite.new.file ≡ splice a.file.now a.place.start (padded a.content.now (space_of a.place)) = wrote.rewrite.ensures in
+    let done = not-refused a.place a.content.now a.file.now (sym (tests tested) ∙ passed.if-refusal-ne0.false) in
     (done.0, rewritten ∙ done.1)
 
-pub update-at-spec : {M : Type 1} → statement M
-update-at-spec =
+pub update_at_spec : {M : Type 1} → statement M
+update_at_spec =
     tie.close (tie.spec returns (λ c. search rules) (λ c κs. search rules) returns-2 rewrite-requires (λ c. search rules) returns-3)

@@ -8,17 +8,17 @@ use borrow.Author.Rules.{rules}
 use Rattle.writer.proofs.creating.create.Statement.{statement}
 use Rattle.writer.proofs.creating.create.Tie as tie
 
-none : (c : tie.Else1) → let s = c.before.before.before in creation_refusal (length s.args.file.now) s.args.settings ≡ 0
-none c = sym c.before.creation-refusal.ensures ∙ c.if1.false
+none : (c : tie.Else-refusal-ne0) → let s = c.before.before.before in creation_refusal (length s.args.file.now) s.args.settings ≡ 0
+none c = sym c.before.creation_refusal-refusal.ensures ∙ c.if-refusal-ne0.false
 
-returns : tie.Need-returns
+returns : tie.Need-returns-then-refusal-ne0
 unfolding created_file
-returns c = let r = c.before.creation-refusal in (r.ensures, rw (← r.ensures, ne_eqb r.result 0 c.if1.true))
+returns c = let r = c.before.creation_refusal-refusal in (r.ensures, rw (← r.ensures, ne_eqb r.result 0 c.if-refusal-ne0.true))
 
-put-first-requires : tie.Need-put-first-requires
+put-first-requires : tie.Need-put_first-requires
 put-first-requires c κs = rw c.new.ensures (created-fits _ _ (none c.before.before))
 
-returns-2 : tie.Need-returns-2
+returns-2 : tie.Need-returns
 unfolding created_file
 returns-2 c =
     let p = c.before.before in
@@ -27,8 +27,8 @@ returns-2 c =
     let accepted = none e in
     (sym accepted, rw (eq-eqb (creation_refusal (length s.args.file.now) s.args.settings) 0 accepted) (rw p.before.new.ensures at p.put_first.ensures))
 
-pub create-spec : {M : Type 1} → statement M
-create-spec =
+pub create_spec : {M : Type 1} → statement M
+create_spec =
     tie.close
     (tie.spec
     (λ c κs. search rules)

@@ -6,14 +6,14 @@ use borrow.Author.Rules.{rules}
 use Rattle.writer.proofs.creating.creation_refusal.Statement.{statement}
 use Rattle.writer.proofs.creating.creation_refusal.Tie as tie
 
-returns : tie.Need-returns
+returns : tie.Need-returns-then-bytes-lt64
 unfolding creation_refusal
-returns c = rw (lt-leb 64 c.before.args.bytes c.if1.true)
+returns c = rw (lt-leb 64 c.before.args.bytes c.if-bytes-lt64.true)
 
-returns-2 : tie.Need-returns-2
+returns-2 : tie.Need-returns
 unfolding creation_refusal setting_refusal
-returns-2 c = rw (le-leb 64 c.before.before.before.args.bytes c.before.before.if1.false) (rw c.before.new.ensures at c.setting-refusal.ensures)
+returns-2 c = rw (le-leb 64 c.before.before.before.args.bytes c.before.before.if-bytes-lt64.false) (rw c.before.new.ensures at c.setting_refusal.ensures)
 
-pub creation-refusal-spec : {M : Type 1} → statement M
-creation-refusal-spec =
+pub creation_refusal_spec : {M : Type 1} → statement M
+creation_refusal_spec =
     tie.close (tie.spec returns (λ c κs. search rules) (λ c κs. search rules) returns-2)

@@ -8,7 +8,7 @@ returns : tie.Need-returns
 unfolding first_written
 returns c = cc
 
-pub put-first-spec : {M : Type 1} → statement M
-put-first-spec =
+pub put_first_spec : {M : Type 1} → statement M
+put_first_spec =
     tie.close
     (tie.spec (λ c κs. search rules) (λ c κs. search rules) (λ c κs. search rules) (λ c. search rules) returns)

@@ -4,6 +4,7 @@ use native.Mathlib.Omega.{arith}
 use borrow.Author.Rules.{rules}
 use lib.ListN.{length}
 use mir.Facts.{to_z-of_z}
+use mir.Syntax.{w32}
 use Rattle.image.specs.Writes.{writes}
 use Rattle.descriptor.specs.FirstRecord.{addresses_of}
 use Rattle.descriptor.proofs.Admitting.{free-small}
@@ -30,92 +31,92 @@ abbrev handed : tie.Start → Handed
 handed s = handed_in s.args.version s.args.index.now s.args.ids.now s.args.lengths.now s.args.sections.now s.args.values.now
 
 -- the places on the way, each from the one behind it
-abbrev began : tie.After-handed-refusal → tie.Start
+abbrev began : tie.After-handed_refusal-handed → tie.Start
 began c = c.before.before.before.before.before.before
 
-abbrev from-head : tie.After-head-of → tie.Start
-from-head c = began c.before.before
+abbrev from-head : tie.After-head_of-head → tie.Start
+from-head c = began c.before.before.before
 
-abbrev from_place : tie.After-place → tie.Start
+abbrev from_place : tie.After-place-placed → tie.Start
 from_place c = from-head c.before
 
 -- what is handed in passed its rules
-passed : (c : tie.Else1) → let s = began c.before in refusal_of s.args.d (handed s) ≡ 0
-passed c = sym c.before.handed-refusal.ensures ∙ c.if1.false
+passed : (c : tie.Else-handed-ne0) → let s = began c.before in refusal_of s.args.d (handed s) ≡ 0
+passed c = sym c.before.handed_refusal-handed.ensures ∙ c.if-handed-ne0.false
 
-fits : (c : tie.Else1) → let s = began c.before in Fitting s.args.d (handed s)
+fits : (c : tie.Else-handed-ne0) → let s = began c.before in Fitting s.args.d (handed s)
 fits c = let s = began c.before in fitting s.args.d (handed s) (passed c)
 
 -- the head
-headed : (c : tie.After-head-of) → let s = from-head c in c.head_of.result ≡ head_of (handed s) s.args.d.xnext
+headed : (c : tie.After-head_of-head) → let s = from-head c in c.head_of-head.result ≡ head_of (handed s) s.args.d.xnext
 headed c =
     let s = from-head c in
-    (rw (to_z-of_z s.fits.version) at c.head_of.ensures) ∙ head-counted s.args.d (handed s) (fits c.before) s.args.d.xnext
+    (rw (to_z-of_z {w = w32} s.ranges.version) at c.head_of-head.ensures) ∙ head-counted s.args.d (handed s) (fits c.before.before) s.args.d.xnext
 
-nword : (c : tie.After-head-of) → c.head_of.result.nword ≡ nword_in (handed (from-head c))
+nword : (c : tie.After-head_of-head) → c.head_of-head.result.nword ≡ nword_in (handed (from-head c))
 nword c = let s = from-head c in ap (λ (r : Head). r.nword) (headed c) ∙ head-nword (handed s) s.args.d.xnext
 
 -- the place
-given : (c : tie.After-place) → let s = from_place c in
-    c.place.result ≡ placement_of (length s.args.file.now) s.args.d (nword_in (handed s))
-given c = let s = from_place c in c.place.ensures ∙ ap (placement_of (length s.args.file.now) s.args.d) (nword c.before)
+given : (c : tie.After-place-placed) → let s = from_place c in
+    c.place-placed.result ≡ placement_of (length s.args.file.now) s.args.d (nword_in (handed s))
+given c = let s = from_place c in c.place-placed.ensures ∙ ap (placement_of (length s.args.file.now) s.args.d) (nword c.before)
 
-found : (c : tie.After-place) → let s = from_place c in
-    c.place.result.refusal ≡ placement_refusal (length s.args.file.now) s.args.d (nword_in (handed s))
+found : (c : tie.After-place-placed) → let s = from_place c in
+    c.place-placed.result.refusal ≡ placement_refusal (length s.args.file.now) s.args.d (nword_in (handed s))
 found c = let s = from_place c in ap (λ (p : Placement). p.refusal) (given c) ∙ place-refusal s.args.d _ _
 
-returns : tie.Need-returns
+returns : tie.Need-returns-then-handed-ne0
 returns c =
     let p = c.before.before in
     let s = began p in
-    let e = p.handed-refusal.ensures in
-    let r = refused-handed s.args.file.now s.args.d (handed s) (λ q. c.before.if1.true (e ∙ q)) in
-    (c.refused-from.ensures ∙ ap refused_from e ∙ r.0, r.1)
+    let e = p.handed_refusal-handed.ensures in
+    let r = refused-handed s.args.file.now s.args.d (handed s) (λ q. c.before.if-handed-ne0.true (e ∙ q)) in
+    (c.refused_from.ensures ∙ ap refused_from e ∙ r.0, r.1)
 
-head-of-requires : tie.Need-head-of-requires
+head-of-requires : tie.Need-head_of-head-requires
 head-of-requires c κs =
-    let f = fits c in
+    let f = fits c.before in
     let few = f.few in
     search rules
 
-place-requires : tie.Need-place-requires
+place-requires : tie.Need-place-placed-requires
 place-requires c κs =
-    let f = fits c.before in
+    let f = fits c.before.before in
     let a = (from-head c).requires.0.admitted in
     (a.settled, a.free, free-small _ _ _ a, a.counted, (from-head c).requires.1, omega (arith, nword c, f.few, section-words _ _ f, c.before.before.before.before, c.before.before.before))
 
-returns-2 : tie.Need-returns-2
+returns-2 : tie.Need-returns-then-placed-ne0
 returns-2 c =
     let p = c.before.before.before in
     let s = from_place p in
     let e = found p in
-    let r = refused-place s.args.file.now s.args.d (handed s) (passed p.before.before) (λ q. c.before.if2.true (e ∙ q)) in
-    (c.refused-from2.ensures ∙ ap refused_from e ∙ r.0, r.1)
+    let r = refused-place s.args.file.now s.args.d (handed s) (passed p.before.before.before) (λ q. c.before.if-placed-ne0.true (e ∙ q)) in
+    (c.refused_from-then-placed-ne0.ensures ∙ ap refused_from e ∙ r.0, r.1)
 
 -- there is no refusal
-none : (c : tie.Else2) → let s = from_place c.before.before in append_refusal (length s.args.file.now) s.args.d (handed s) ≡ 0
+none : (c : tie.Else-placed-ne0) → let s = from_place c.before.before in append_refusal (length s.args.file.now) s.args.d (handed s) ≡ 0
 none c =
     let p = c.before.before in
     let s = from_place p in
-    refused_none s.args.file.now s.args.d (handed s) (passed p.before.before) (sym (found p) ∙ c.if2.false)
+    refused_none s.args.file.now s.args.d (handed s) (passed p.before.before.before) (sym (found p) ∙ c.if-placed-ne0.false)
 
-admits : (c : tie.Else2) → let s = from_place c.before.before in Accepted (length s.args.file.now) s.args.d (addresses_of s.args.file.now s.args.d.nex) (handed s)
-admits c = let s = from_place c.before.before in accepted s.args.d (handed s) (length s.args.file.now) _ s.pre.0.admitted (none c)
+admits : (c : tie.Else-placed-ne0) → let s = from_place c.before.before in Accepted (length s.args.file.now) s.args.d (addresses_of s.args.file.now s.args.d.nex) (handed s)
+admits c = let s = from_place c.before.before in accepted s.args.d (handed s) (length s.args.file.now) _ s.requires.0.admitted (none c)
 
-stands : (c : tie.Else2) → let s = from_place c.before.before in c.before.before.place.result ≡ placed_at s.args.d
+stands : (c : tie.Else-placed-ne0) → let s = from_place c.before.before in c.before.before.place-placed.result ≡ placed_at s.args.d
 stands c =
     let p = c.before.before in
     let s = from_place p in
-    given p ∙ place-stands s.args.d _ _ (sym (found p) ∙ c.if2.false)
+    given p ∙ place-stands s.args.d _ _ (sym (found p) ∙ c.if-placed-ne0.false)
 
 store-requires : tie.Need-store-requires
 store-requires c κs =
     let e = c.before in
     let p = e.before.before in
     let s = from_place p in
-    (storing _ s.args.d _ _ (handed s) s.pre.0.order (admits e) (stands e) (headed p.before), s.pre.1)
+    (storing _ s.args.d _ _ (handed s) s.requires.0.order (admits e) (stands e) (headed p.before), s.requires.1)
 
-returns-3 : tie.Need-returns-3
+returns-3 : tie.Need-returns
 returns-3 c =
     let r = c.before.before.before in
     let e = r.before.before in
@@ -132,8 +133,8 @@ returns-3 c =
           ∙ done.1,
     )
 
-pub append-from-spec : {M : Type 1} → statement M
-append-from-spec =
+pub append_from_spec : {M : Type 1} → statement M
+append_from_spec =
     tie.close
     (tie.spec
     (λ c κs. search rules)

@@ -14,59 +14,60 @@ use Rattle.storing.specs.Handed.{distinct}
 use Rattle.storing.proofs.Lengths.{read_back}
 use Rattle.writer.proofs.HandedIn.{distinct-run, NoneAbove, above-absent, none-next, none-higher}
 use Rattle.writer.proofs.rules.are_distinct.Statement.{statement}
+use Rattle.writer.proofs.rules.are_distinct.Lts.{then-highest-identifier, else-highest-identifier+else-not-is_absent}
 use Rattle.writer.proofs.rules.are_distinct.Tie as tie
 
-abbrev invariant-loop : tie.invariant-loop
+abbrev invariant-loop : tie.invariant-loop-passed
 invariant-loop ids highest₀ passed₀ highest passed = Passing (distinct ids) (length ids) passed × NoneAbove ids passed (signed_of integer4 highest)
 
-abbrev decreases-loop : tie.decreases-loop
+abbrev decreases-loop : tie.decreases-loop-passed
 decreases-loop ids highest₀ passed₀ highest passed = length ids - passed
 
-loop-holds : tie.Need-loop-init invariant-loop decreases-loop
+loop-holds : tie.Need-loop-passed-init invariant-loop decreases-loop
 unfolding distinct
 loop-holds c = (record { few = omega arith; so_far = refl }, record { below = λ i h. absurd (omega arith) })
 
 -- the highest before a turn, and the identifier of the turn
-abbrev highest : tie.After-identifier invariant-loop decreases-loop → ℤ
-highest c = signed_of integer4 c.before.before.loop.highest
+abbrev highest : tie.After-identifier-1 invariant-loop decreases-loop → ℤ
+highest c = signed_of integer4 c.before.before.loop-passed.highest-bits
 
-abbrev identifier : tie.After-identifier invariant-loop decreases-loop → ℤ
-identifier c = let l = c.before.before in get_or l.before.args.ids.now l.loop.passed (pos 0)
+abbrev identifier : tie.After-identifier-1 invariant-loop decreases-loop → ℤ
+identifier c = let l = c.before.before in get_or l.before.args.ids.now l.loop-passed.passed (pos 0)
 
 -- the identifier as code reads it, and as it is compared with the highest
-read : (c : tie.After-identifier invariant-loop decreases-loop) → signed_of integer4 (bits_of integer4 (identifier c)) ≡ identifier c
-read c = let l = c.before.before in read_back integer4 l.before.args.ids.now l.loop.passed c.identifier.given
+read : (c : tie.After-identifier-1 invariant-loop decreases-loop) → signed_of integer4 (bits_of integer4 (identifier c)) ≡ identifier c
+read c = let l = c.before.before in read_back integer4 l.before.args.ids.now l.loop-passed.passed c.identifier-1.given
 
-compared : (c : tie.After-identifier invariant-loop decreases-loop) {t : Bool} → lt_z (highest c) (signed_of integer4 (bits_of integer4 (identifier c))) ≡ t → lt_z (highest c) (identifier c) ≡ t
+compared : (c : tie.After-identifier-1 invariant-loop decreases-loop) {t : Bool} → lt_z (highest c) (signed_of integer4 (bits_of integer4 (identifier c))) ≡ t → lt_z (highest c) (identifier c) ≡ t
 compared c e = rw (read c) at e
 
-returns : tie.Need-returns invariant-loop decreases-loop
+returns : tie.Need-returns-then-not-is_absent invariant-loop decreases-loop
 returns c =
     let d = c.before.before.before in
-    let l = d.before.before.loop in
-    passing-failed (distinct-run _) l.invariant.0 d.before.loop-test.true (rw (read d) at c.before.is-absent.ensures) c.if2.true
+    let l = d.before.before.loop-passed in
+    passing-failed (distinct-run _) l.invariant.0 d.before.loop-passed-test.true (rw (read d) at c.before.is_absent.ensures) c.if-not-is_absent.true
 
-loop-again : tie.Need-loop-preserved invariant-loop decreases-loop
+loop-again : tie.Need-loop-passed-preserved invariant-loop decreases-loop
 loop-again c =
     let d = c.before in
-    let l = d.before.before.loop in
+    let l = d.before.before.loop-passed in
     let ids = d.before.before.before.args.ids.now in
-    let some = d.before.loop-test.true in
+    let some = d.before.loop-passed-test.true in
     let below = NoneAbove ids (l.passed + 1) in
-    ⊎_elim
-    (λ w.
-    let above = compared d w.0.taken in (
-      passing-next (distinct-run ids) l.invariant.0 some {t = true} (sym (above-absent l.invariant.1 _ above)) refl,
-      subst below (sym (ap (signed_of integer4) w.1 ∙ read d)) (none-higher l.invariant.1 above),
-    ))
-    (λ w. (
-      passing-next (distinct-run ids) l.invariant.0 some (rw (read d) at w.1.ensures) w.2.left,
-      subst below (sym (ap (signed_of integer4) w.3)) (none-next l.invariant.1 (compared d w.0.left)),
-    ))
-    c.if1.branch
+    elim c.if-highest-identifier.branch [
+      then-highest-identifier w ↦
+        let above = compared d w.if-highest-identifier.true in (
+          passing-next (distinct-run ids) l.invariant.0 some {t = true} (sym (above-absent l.invariant.1 _ above)) refl,
+          subst below (sym (ap (signed_of integer4) w.highest-is-bits ∙ read d)) (none-higher l.invariant.1 above),
+        )
+      | else-highest-identifier+else-not-is_absent w ↦ (
+          passing-next (distinct-run ids) l.invariant.0 some (rw (read d) at w.is_absent.ensures) w.if-not-is_absent.false,
+          subst below (sym (ap (signed_of integer4) w.highest-is-bits)) (none-next l.invariant.1 (compared d w.if-highest-identifier.false)),
+        )
+    ]
 
-pub are-distinct-spec : {M : Type 1} → statement M
-are-distinct-spec =
+pub are_distinct_spec : {M : Type 1} → statement M
+are_distinct_spec =
     tie.close
     (tie.spec
     invariant-loop
@@ -79,4 +80,4 @@ are-distinct-spec =
     (λ c. omega arith)
     (λ c. omega arith)
     loop-again
-    (λ c. passing-all c.before.loop.invariant.0 (omega arith)))
+    (λ c. passing-all c.before.loop-passed.invariant.0 (omega arith)))

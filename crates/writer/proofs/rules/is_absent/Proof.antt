@@ -15,38 +15,38 @@ use Rattle.writer.proofs.HandedIn.{absent-run}
 use Rattle.writer.proofs.rules.is_absent.Statement.{statement}
 use Rattle.writer.proofs.rules.is_absent.Tie as tie
 
-abbrev invariant-loop : tie.invariant-loop
+abbrev invariant-loop : tie.invariant-loop-passed
 invariant-loop ids identifier count passed₀ passed = Passing (absent ids (signed_of integer4 identifier)) count passed
 
-abbrev decreases-loop : tie.decreases-loop
+abbrev decreases-loop : tie.decreases-loop-passed
 decreases-loop ids identifier count passed₀ passed = count - passed
 
-loop-holds : tie.Need-loop-init invariant-loop decreases-loop
+loop-holds : tie.Need-loop-passed-init invariant-loop decreases-loop
 unfolding absent
 loop-holds c = record { few = omega arith; so_far = refl }
 
-returns : tie.Need-returns invariant-loop decreases-loop
+returns : tie.Need-returns-then-ids-passed invariant-loop decreases-loop
 returns c =
     let l = c.before.before.before in
     let s = l.before in
-    let read = read_back integer4 s.args.ids.now l.loop.passed c.before.if12.given in
-    let same = same-equal _ _ (sym read ∙ ap (signed_of integer4) c.if1.true) in
-    rw (to_z-of_z s.ranges.identifier) at (passing-failed (absent-run _ _) l.loop.invariant (omega arith) {t = false} (sym (ap not same)) refl)
+    let read = read_back integer4 s.args.ids.now l.loop-passed.passed c.before.t8-1.given in
+    let same = same-equal _ _ (sym read ∙ ap (signed_of integer4) c.if-ids-passed.true) in
+    rw (to_z-of_z s.ranges.identifier) at (passing-failed (absent-run _ _) l.loop-passed.invariant (omega arith) {t = false} (sym (ap not same)) refl)
 
-loop-again : tie.Need-loop-preserved invariant-loop decreases-loop
+loop-again : tie.Need-loop-passed-preserved invariant-loop decreases-loop
 loop-again c =
     let l = c.before.before.before in
     let known = to_z-of_z l.before.ranges.identifier in
-    let other = same-other _ _ (λ q. c.if1.false (ap (of_z integer4) (q ∙ known))) in
-    passing-next (absent-run _ _) l.loop.invariant (omega arith) {t = true} (sym (ap not other)) refl
+    let other = same-other _ _ (λ q. c.if-ids-passed.false (ap (of_z integer4) (q ∙ known))) in
+    passing-next (absent-run _ _) l.loop-passed.invariant (omega arith) {t = true} (sym (ap not other)) refl
 
-returns-2 : tie.Need-returns-2 invariant-loop decreases-loop
+returns-2 : tie.Need-returns invariant-loop decreases-loop
 returns-2 c =
     let s = c.before.before in
-    rw (to_z-of_z s.ranges.identifier) at (passing-all c.before.loop.invariant (omega arith))
+    rw (to_z-of_z s.ranges.identifier) at (passing-all c.before.loop-passed.invariant (omega arith))
 
-pub is-absent-spec : {M : Type 1} → statement M
-is-absent-spec =
+pub is_absent_spec : {M : Type 1} → statement M
+is_absent_spec =
     tie.close
     (tie.spec
     invariant-loop
