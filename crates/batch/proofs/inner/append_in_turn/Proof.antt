@@ -14,11 +14,11 @@ use Rattle.batch.proofs.InTurn.{Before, before-first, counts, version, entry-rea
 use Rattle.batch.proofs.inner.append_in_turn.Statement.{statement}
 use Rattle.batch.proofs.inner.append_in_turn.Tie as tie
 
-abbrev invariant-loop : tie.invariant-loop
+abbrev invariant-loop : tie.invariant-loop-accepted
 invariant-loop file₀ versions counts index ids lengths sections values turn₀ accepted₀ file turn accepted =
     (length file ≡ length file₀) × Before file₀ (batch_in versions counts (laid_in index ids lengths sections values)) file turn accepted
 
-abbrev decreases-loop : tie.decreases-loop
+abbrev decreases-loop : tie.decreases-loop-accepted
 decreases-loop file₀ versions counts index ids lengths sections values turn₀ accepted₀ file turn accepted = length versions - accepted
 
 -- where the function began
@@ -26,59 +26,58 @@ abbrev began : tie.After-begin invariant-loop decreases-loop → tie.Start invar
 began c = c.before.before.before.before.before
 
 -- the batch
-abbrev given : tie.At-loop invariant-loop decreases-loop → Batch
+abbrev given : tie.At-loop-accepted invariant-loop decreases-loop → Batch
 given c =
     let a = (began c.before).args in
     batch_in a.versions.now a.counts.now (laid_in a.index.now a.ids.now a.lengths.now a.sections.now a.values.now)
 
-loop-holds : tie.Need-loop-init invariant-loop decreases-loop
+loop-holds : tie.Need-loop-accepted-init invariant-loop decreases-loop
 loop-holds c = (refl, before-first _ _ _ refl c.begin.ensures (began c).requires.0 (began c).requires.1 (began c).requires.2)
 
 -- the turn that a place is in
-abbrev turn : tie.After-row invariant-loop decreases-loop → tie.In-loop invariant-loop decreases-loop
+abbrev turn : tie.After-row-1 invariant-loop decreases-loop → tie.In-loop-accepted invariant-loop decreases-loop
 turn c = c.before.before
 
-append-next-requires : tie.Need-append-next-requires invariant-loop decreases-loop
+append-next-requires : tie.Need-append_next-turn-requires invariant-loop decreases-loop
 append-next-requires c κs =
     let t = turn c.before in
-    let i = t.before.loop.inv.1 in
-    (admitted-own _ _ i.shown i.numbers, entry-reached _ _ i t.loop-test.taken)
+    let i = t.before.loop-accepted.invariant.1 in
+    (admitted-own _ _ i.shown i.numbers, entry-reached _ _ i t.loop-accepted-test.true)
 
 -- what its append did
-appends : (c : tie.After-append-next invariant-loop decreases-loop) → let t = turn c.before.before in let l = t.before.loop in let b = given t.before in
-    AppendsNext l.file l.turn (version _ b l.inv.1 t.loop-test.taken) (counts _ b l.inv.1 t.loop-test.taken) b.laid c.append-next.result c.append-next.new.1.0
+appends : (c : tie.After-append_next-turn invariant-loop decreases-loop) → let t = turn c.before.before in let l = t.before.loop-accepted in let b = given t.before in
+    AppendsNext l.file l.turn (version _ b l.invariant.1 t.loop-accepted-test.true) (counts _ b l.invariant.1 t.loop-accepted-test.true) b.laid c.append_next-turn.result c.append_next-turn.new.file
 appends c =
     let v = c.before.before.before in
     let l = v.before.before in
-    rw (read_back integer4 (given l).versions l.loop.accepted v.version.given) at c.append-next.ensures
+    rw (read_back integer4 (given l).versions l.loop-accepted.accepted v.version-1.given) at c.append_next-turn.ensures
 
-returns : tie.Need-returns invariant-loop decreases-loop
+returns : tie.Need-returns-then-turn-ne0 invariant-loop decreases-loop
 returns c =
     let r = c.before.before.before.before in
     let t = turn r.before.before in
-    ended _ _ t.before.loop.inv.1 t.loop-test.taken _ _ (appends r) c.if1.true
+    ended _ _ t.before.loop-accepted.invariant.1 t.loop-accepted-test.true _ _ (appends r) c.if-turn-ne0.true
 
 -- the append behind which an entry was accepted
-abbrev behind : tie.Else1 invariant-loop decreases-loop → tie.After-append-next invariant-loop decreases-loop
+abbrev behind : tie.Else-turn-ne0 invariant-loop decreases-loop → tie.After-append_next-turn invariant-loop decreases-loop
 behind c = c.before.before.before.before
 
-add-accepted : tie.Need-overflow-add-accepted invariant-loop decreases-loop
+add-accepted : tie.Need-overflow_add-accepted invariant-loop decreases-loop
 add-accepted c =
     let t = turn (behind c).before.before in
-    let good = (began t.before.before).good in
-    omega (arith, t.loop-test.taken)
+    omega (arith, t.loop-accepted-test.true)
 
-loop-again : tie.Need-loop-preserved invariant-loop decreases-loop
+loop-again : tie.Need-loop-accepted-preserved invariant-loop decreases-loop
 loop-again c =
     let r = behind c in
     let t = turn r.before.before in
-    (omega arith, before-next _ _ t.before.loop.inv.1 t.loop-test.taken _ _ (appends r) c.if1.false)
+    (omega arith, before-next _ _ t.before.loop-accepted.invariant.1 t.loop-accepted-test.true _ _ (appends r) c.if-turn-ne0.false)
 
-returns-2 : tie.Need-returns-2 invariant-loop decreases-loop
-returns-2 c = all-accepted _ _ c.before.loop.invariant.1 c.loop-test.false
+returns-2 : tie.Need-returns invariant-loop decreases-loop
+returns-2 c = all-accepted _ _ c.before.loop-accepted.invariant.1 c.loop-accepted-test.false
 
-pub append-in-turn-spec : {M : Type 1} → statement M
-append-in-turn-spec =
+pub append_in_turn_spec : {M : Type 1} → statement M
+append_in_turn_spec =
     tie.close
     (tie.spec
     invariant-loop

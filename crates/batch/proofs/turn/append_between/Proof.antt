@@ -9,10 +9,10 @@ returns c =
     let r = c.before.before in
     let args = r.before.before.before.before in
     let lent = args.before.before.before in
-    rw (to_z-of_z lent.before.before.before.before.before.ranges.version) at r.append-from.ensures
+    rw (to_z-of_z lent.before.before.before.before.before.ranges.version) at r.append_from.ensures
 
-pub append-between-spec : {M : Type 1} → statement M
-append-between-spec =
+pub append_between_spec : {M : Type 1} → statement M
+append_between_spec =
     tie.close
     (tie.spec
     (λ c. search rules)

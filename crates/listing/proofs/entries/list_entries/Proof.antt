@@ -47,5 +47,5 @@ list_entries_spec =
     let slots = entries-room _ _ _ a in
     omega (arith, rows_short s.args.file.now s.args.d (addresses_of s.args.file.now s.args.d.nex), c.rows_length-count.ensures, slots, a.lent.high))
     (λ c. left_alone _ _ (omega (arith, measured c.before)))
-    (λ c. search rules) (λ c κs. search rules) (λ c. search rules) (λ c. search rules)
+    (λ c κs. search rules) (λ c κs. search rules) (λ c. search rules)
     returns-2)

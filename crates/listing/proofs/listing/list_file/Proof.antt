@@ -27,11 +27,11 @@ list_file_spec =
     let l = c.before.before in
     let r = l.before.before in
     let t = r.before in
-    let a = t.before.before.before.admit-case in
+    let a = t.before.before.admit-case in
     rw (listing-refused _ (case-left _ a.result a.ensures.0 r.refusal_of.ensures t.in_default.is).validation) l.list_refused.ensures)
     (λ c. search rules)
-    (λ c κs. let p = shown c.before.before.before in (p.admitted, p.table))
+    (λ c κs. let p = shown c.before.before in (p.admitted, p.table))
     (λ c. search rules)
     (λ c.
     let l = c.before.before in
-    rw (listing-numbers _ (shown l.before.before.before.before).validation) l.list_entries.ensures))
+    rw (listing-numbers _ (shown l.before.before.before).validation) l.list_entries.ensures))

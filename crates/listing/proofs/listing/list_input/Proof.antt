@@ -23,7 +23,6 @@ unfolding over_limit
 list_input_spec =
     tie.close
     (tie.spec
-    (λ c. search rules)
     (λ c κs. search rules)
     (λ c. rw (output-over c.before.before.before.before.before.args.input.now c.before.before.before.if-input-gt-INPUT_MAX.true) (refl, c.put.ensures))
     (λ c κs. search rules)

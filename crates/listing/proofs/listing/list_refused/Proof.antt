@@ -33,5 +33,5 @@ list_refused_spec =
     (λ c. search rules)
     (λ c κs. let n = c.before.before.args.refusal in omega (arith, length-refused n, field-short n newline))
     (λ c. left_alone _ _ (omega (arith, whole c.before.before)))
-    (λ c. search rules) (λ c κs. search rules) (λ c. search rules) (λ c. search rules)
+    (λ c κs. search rules) (λ c κs. search rules) (λ c. search rules)
     returns-2)
