@@ -5,11 +5,11 @@ use mathlib.Core.Bool.{cond}
 use mathlib.Core.List.{List, [], ◌∷◌, map}
 use native.Mathlib.Omega.{arith}
 use borrow.Author.Tests.{leb-true, leb-false, le-leb, lt-leb}
-use lib.ListN.{length, set, replicate, length-replicate}
+use lib.ListN.{set, replicate}
 use lib.Dec.{leb}
 use Rattle.outcome.proofs.Either.{either}
 use Rattle.words.specs.Table.{places}
-use Rattle.words.proofs.Table.{Filling, filling-none, filling-next, length-places}
+use Rattle.words.proofs.Table.{Filling, filling-none, filling-next}
 
 -- a table whose places are mapped is the table of what they are mapped to
 pub map-places : {A : Type 0} (f : A → ℕ) (m n : ℕ) (g : ℕ → A) (blank : A) → map f (places m n g blank) ≡ places m n (λ i. f (g i)) (f blank)
@@ -74,12 +74,6 @@ behind-none m zero f blank h = refl
 behind-none zero (suc n) f blank h = absurd (omega arith)
 behind-none {A} (suc m) (suc n) f blank h = ap (λ (l : List A). blank ∷ l) (behind-none m n (λ i. f (suc i)) blank (omega arith))
 
-behind-length : {A : Type 0} (m left n : ℕ) (f : ℕ → A) (blank : A) → length (behind m left n f blank) ≡ m
-behind-length m zero n f blank = length-places m n f blank
-behind-length m (suc left) zero f blank = length-replicate m blank
-behind-length zero (suc left) (suc n) f blank = refl
-behind-length (suc m) (suc left) (suc n) f blank = ap suc (behind-length m left n (λ i. f (suc i)) blank)
-
 behind-next : {A : Type 0} (m left n : ℕ) (f : ℕ → A) (blank : A) → left < n → n ≤ m → set (behind m (suc left) n f blank) left (f left) ≡ behind m left n f blank
 behind-next m left zero f blank h r = absurd (omega arith)
 behind-next zero left (suc n) f blank h r = absurd (omega arith)
@@ -96,10 +90,6 @@ module _ {A : Type 0} {m n : ℕ} {f : ℕ → A} {blank : A} where
   -- it knows that before its first turn
   pub emptying-none : n ≤ m → Emptying m n f blank (replicate m blank) n
   emptying-none room = record { few = omega arith; so_far = sym (behind-none m n f blank room) }
-
-  -- the table keeps its places
-  pub emptying-length : {table : List A} {left : ℕ} → Emptying m n f blank table left → length table ≡ m
-  emptying-length {table} {left} l = ap length l.so_far ∙ behind-length m left n f blank
 
   -- a turn that puts the value of the place before keeps it
   pub emptying-next : {table : List A} {left k : ℕ} {value : A} → Emptying m n f blank table left → left ≡ suc k → n ≤ m → value ≡ f k

@@ -2,6 +2,4 @@
 pub mod Filled
 pub mod Narrow
 pub mod Entries
-pub mod Crossing
-pub mod Lent
 pub mod Examples

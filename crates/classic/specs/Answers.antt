@@ -1,6 +1,5 @@
 -- The answers of the crates below as C has them (include/classic.h): an enum becomes a refusal field, a unit its number, a part its start and length.
 use Rattle.std.specs.Prelude.{ℕ, ◌-◌, ℤ, List, map}
-use Rattle.geometry.specs.declared.units.RecordNumber.{RecordNumber}
 use Rattle.geometry.specs.declared.units.EntryAddress.{EntryAddress}
 use Rattle.geometry.specs.Units.{record_numbers}
 use Rattle.descriptor.specs.declared.validating.Validation.{Validation}

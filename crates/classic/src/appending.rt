@@ -9,8 +9,7 @@ use writer::{Appended, append};
 
 // Appends an entry: its version, the application's index words, its sections by identifiers, lengths
 // and bytes one after another, and its data. Answers its number, or the refusal.
-#[unsafe(no_mangle)]
-pub extern "C" fn classic_append(
+pub fn classic_append(
     file: &mut [u8],
     version: i32,
     index: &[u8],
@@ -27,8 +26,7 @@ pub extern "C" fn classic_append(
 // Appends entries in turn, of which each kind is laid end to end, with a row of counts for each entry:
 // index bytes, identifiers, lengths, section bytes, data bytes. Answers how many were accepted, and
 // the refusal that ended it, if any.
-#[unsafe(no_mangle)]
-pub extern "C" fn classic_append_batch(
+pub fn classic_append_batch(
     file: &mut [u8],
     versions: &[i32],
     counts: &[[u64; 5]],

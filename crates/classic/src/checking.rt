@@ -7,8 +7,7 @@ use super::answers::ClassicChecked;
 use order::check_order;
 
 // The first entry that fails and its refusal, or zeros.
-#[unsafe(no_mangle)]
-pub extern "C" fn classic_check(file: &[u8]) -> ClassicChecked
+pub fn classic_check(file: &[u8]) -> ClassicChecked
     ensures { Answers (checked_for (check_of file.now)) result }
 {
     let checked = check_order(file);

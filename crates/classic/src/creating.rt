@@ -7,8 +7,7 @@ use descriptor::Settings;
 use writer::create;
 
 // Writes the first record of a file with no entries. Answers 0, or the refusal.
-#[unsafe(no_mangle)]
-pub extern "C" fn classic_create(file: &mut [u8], settings: ClassicSettings) -> u32
+pub fn classic_create(file: &mut [u8], settings: ClassicSettings) -> u32
     ensures { Creates file.old (settings_from settings) result file.new }
 {
     let chosen = Settings {

@@ -1,10 +1,9 @@
-// The library as its callers have it: the calls for C (include/classic.h), and the public calls and
-// types of the crates below for Rattle products.
+// The library as its callers have it: the calls for C (include/classic.h), which the crate `classic_c`
+// exports, and the public calls and types of the crates below for Rattle products.
 //
 // Each `classic_` function makes one call of a crate below and promises that call's own definition. Where
 // the answer is not laid out as C has it, it is put into a struct for C; specs/Answers.antt says which
-// field is which. No call has a premise. What the border assumes of a caller in C, and cannot prove: each pointer leads to as many
-// elements as its count says, aligned for their type, and the buffers of one call do not overlap.
+// field is which. No call has a premise.
 #![tactic(auto)]
 
 mod answers;

@@ -91,8 +91,7 @@ fn entry_of_few(order: ByteOrder, file: &[u8], entered: Entered) -> ClassicEntry
 }
 
 // An entry by its number, or the refusal.
-#[unsafe(no_mangle)]
-pub extern "C" fn classic_open(file: &[u8], entry: u64) -> ClassicEntry
+pub fn classic_open(file: &[u8], entry: u64) -> ClassicEntry
     ensures { Answers (entry_for (open_of file.now (record { 0 = entry }))) result }
 {
     let mut totals = [0u64; 16];

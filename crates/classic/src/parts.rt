@@ -21,24 +21,21 @@ fn part_at(place: PartPlace) -> ClassicPart
 }
 
 // The application's words of an entry's index, or the refusal.
-#[unsafe(no_mangle)]
-pub extern "C" fn classic_index_words(file: &[u8], entry: u64) -> ClassicPart
+pub fn classic_index_words(file: &[u8], entry: u64) -> ClassicPart
     ensures { Answers (part_for (index_words_of file.now (record { 0 = entry }))) result }
 {
     part_at(index_words_place(file, EntryNumber(entry)))
 }
 
 // The first section of an entry that has the identifier, or the refusal.
-#[unsafe(no_mangle)]
-pub extern "C" fn classic_section(file: &[u8], entry: u64, identifier: i32) -> ClassicPart
+pub fn classic_section(file: &[u8], entry: u64, identifier: i32) -> ClassicPart
     ensures { Answers (part_for (section_words_of file.now (record { 0 = entry }) identifier)) result }
 {
     part_at(section_place(file, EntryNumber(entry), identifier))
 }
 
 // The data of an entry, or the refusal.
-#[unsafe(no_mangle)]
-pub extern "C" fn classic_data(file: &[u8], entry: u64) -> ClassicPart
+pub fn classic_data(file: &[u8], entry: u64) -> ClassicPart
     ensures { Answers (part_for (data_words_of file.now (record { 0 = entry }))) result }
 {
     part_at(data_array_place(file, EntryNumber(entry)))

@@ -18,16 +18,14 @@ use through::{append_batch_through, append_through, update_through};
 use writer::Appended;
 
 // The record of a file, or the refusal.
-#[unsafe(no_mangle)]
-pub extern "C" fn classic_open_file_of(file: &[u8]) -> OpenFileAnswer
+pub fn classic_open_file_of(file: &[u8]) -> OpenFileAnswer
     ensures { Answers (open_file_of file.now) result }
 {
     open_file_of(file)
 }
 
 // Appends an entry through a record that is lent. Answers its number, or the refusal.
-#[unsafe(no_mangle)]
-pub extern "C" fn classic_append_to(
+pub fn classic_append_to(
     held: &mut OpenFile,
     file: &mut [u8],
     version: i32,
@@ -46,8 +44,7 @@ pub extern "C" fn classic_append_to(
 
 // Appends entries in turn through a record that is lent. Answers how many were accepted, and the refusal
 // that ended it, if any.
-#[unsafe(no_mangle)]
-pub extern "C" fn classic_append_batch_to(
+pub fn classic_append_batch_to(
     held: &mut OpenFile,
     file: &mut [u8],
     versions: &[i32],
@@ -68,8 +65,7 @@ pub extern "C" fn classic_append_batch_to(
 }
 
 // Rewrites a section through a record that is lent. Answers 0, or the refusal.
-#[unsafe(no_mangle)]
-pub extern "C" fn classic_update_to(
+pub fn classic_update_to(
     held: &mut OpenFile,
     file: &mut [u8],
     entry: EntryNumber,

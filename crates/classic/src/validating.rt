@@ -35,8 +35,7 @@ fn descriptor_from(case: ValidatedCase, aex: [u64; 16]) -> ClassicDescriptor
 }
 
 // The file's descriptor, or the refusal.
-#[unsafe(no_mangle)]
-pub extern "C" fn classic_validate(file: &[u8]) -> ClassicDescriptor
+pub fn classic_validate(file: &[u8]) -> ClassicDescriptor
     ensures { Answers (descriptor_for (validation_of file.now)) result }
 {
     let mut totals = [0u64; 16];
@@ -48,8 +47,7 @@ pub extern "C" fn classic_validate(file: &[u8]) -> ClassicDescriptor
 }
 
 // An extension by its number, or the refusal.
-#[unsafe(no_mangle)]
-pub extern "C" fn classic_extension_of(file: &[u8], number: u64) -> ClassicExtension
+pub fn classic_extension_of(file: &[u8], number: u64) -> ClassicExtension
     ensures { Answers (extension_for (extension_of file.now (record { 0 = number }))) result }
 {
     let extension = extension_of(file, ExtensionNumber(number));

@@ -4,7 +4,7 @@ ghost use Rattle.std.specs.Prelude.{◌≡◌, ◌<◌, ◌≤◌, length};
 use super::files::save;
 use super::holding::{end_call, left, read_record};
 use super::lists::{COUNTS, VERSIONS, at_most, ends, labelled, labelled_integers, read_lists};
-use super::printing::{BATCH, print};
+use super::printing::{BATCH, Lines};
 use super::reading::bits_at;
 use super::writing::compared;
 use classic::{Batched, append_batch, append_batch_through};
@@ -36,6 +36,7 @@ fn rows(values: &[i64], counts: &mut [[u64; 5]])
 // Appends a batch, through the record held or without it, with identifiers, lengths, and the bytes of the index, the
 // sections and the data one after another.
 fn batch_parts(
+    lines: &mut Lines,
     record: &mut [u8],
     numbers: &[i64],
     bytes: &[u8],
@@ -47,7 +48,7 @@ fn batch_parts(
 ) -> Batched
     requires { 816 ≤ length bytes.now }
 {
-    let parts = ends(numbers, 2);
+    let parts = ends(lines, numbers, 2);
     let i = parts.index;
     let s = parts.sections;
     let d = parts.values;
@@ -68,6 +69,7 @@ fn batch_parts(
 
 // Appends a batch with versions and rows of counts.
 fn batch_rows(
+    lines: &mut Lines,
     record: &mut [u8],
     numbers: &[i64],
     lists: &[u8],
@@ -79,10 +81,11 @@ fn batch_rows(
     let mut ids = [0i32; 65];
     let mut lengths = [0i64; 65];
     let mut bytes = [0u8; 816];
-    let listed = read_lists(lists, at, &mut ids, &mut lengths, &mut bytes);
+    let listed = read_lists(lines, lists, at, &mut ids, &mut lengths, &mut bytes);
     let named = listed.ids;
     let measured = listed.lengths;
     batch_parts(
+        lines,
         record,
         numbers,
         &bytes,
@@ -96,16 +99,23 @@ fn batch_rows(
 
 // Appends the batch that a line hands in: how many versions and rows, the bytes of index, sections and data, then lists
 // behind their labels.
-fn batch_line(record: &mut [u8], numbers: &[i64], lists: &[u8], file: &mut [u8]) -> Batched {
+fn batch_line(
+    lines: &mut Lines,
+    record: &mut [u8],
+    numbers: &[i64],
+    lists: &[u8],
+    file: &mut [u8],
+) -> Batched {
     let mut versions = [0i32; 65];
     let mut values = [0i64; 325];
     let mut counts = [[0u64; 5]; 65];
-    let versioned = labelled_integers(lists, 0, VERSIONS, &mut versions);
+    let versioned = labelled_integers(lines, lists, 0, VERSIONS, &mut versions);
     let counted = labelled(lists, versioned.next, COUNTS, &mut values);
     rows(&values, &mut counts);
-    let entries = at_most(65, bits_at(numbers, 0));
-    let count = at_most(65, bits_at(numbers, 1));
+    let entries = at_most(lines, 65, bits_at(numbers, 0));
+    let count = at_most(lines, 65, bits_at(numbers, 1));
     batch_rows(
+        lines,
         record,
         numbers,
         lists,
@@ -118,17 +128,18 @@ fn batch_line(record: &mut [u8], numbers: &[i64], lists: &[u8], file: &mut [u8])
 
 // Writes the line of a batch: how many entries were accepted, the refusal, and where there were none whether bytes
 // changed.
-fn batched(name: &[u8], answer: Batched, room: &[u8], lent: usize)
+fn batched(lines: &mut Lines, name: &[u8], answer: Batched, room: &[u8], lent: usize)
     requires { lent ≤ 789176 }
 {
-    print(BATCH, answer.refusal as u64, name, answer.accepted, 0, 0, 0);
+    lines.print(BATCH, answer.refusal as u64, name, answer.accepted, 0, 0, 0);
     if answer.accepted == 0 {
-        compared(name, room, 0, lent);
+        compared(lines, name, room, 0, lent);
     }
 }
 
 // Appends a batch to the lent bytes: the line of a case that has a name, or of a refusal.
 pub(crate) fn batch_in(
+    lines: &mut Lines,
     record: &mut [u8],
     numbers: &[i64],
     lists: &[u8],
@@ -139,9 +150,9 @@ pub(crate) fn batch_in(
     requires { (length room.old ≡ 1623632) × (lent ≤ 789176) }
 {
     save(room, lent);
-    let answer = batch_line(record, numbers, lists, &mut room[0..lent]);
+    let answer = batch_line(lines, record, numbers, lists, &mut room[0..lent]);
     if name.len() != 0 || answer.refusal != 0 {
-        batched(name, answer, room, lent);
-        end_call(name, record, &room[0..lent]);
+        batched(lines, name, answer, room, lent);
+        end_call(lines, name, record, &room[0..lent]);
     }
 }

@@ -2,7 +2,7 @@
 ghost use Rattle.std.specs.Prelude.{◌≡◌, ◌≤◌, length};
 
 use super::files::save;
-use super::printing::{EVERY, EVERY_END, EVERY_ON, end, print};
+use super::printing::{EVERY, EVERY_END, EVERY_ON, Lines};
 use super::writing::{append_line, compared};
 use classic::{
     EntryNumber, ExtensionNumber, Open, check_order, data_array_refusal, extension_of,
@@ -19,10 +19,10 @@ fn open_refusal(file: &[u8], asked: u64) -> u32 {
 }
 
 // Writes the refusals of the first calls that read.
-fn openings(name: &[u8], file: &[u8], asked: u64) {
+fn openings(lines: &mut Lines, name: &[u8], file: &[u8], asked: u64) {
     let extension = extension_of(file, ExtensionNumber(asked)).refusal;
     let index = index_words_refusal(file, EntryNumber(asked));
-    print(
+    lines.print(
         EVERY,
         0,
         name,
@@ -34,11 +34,11 @@ fn openings(name: &[u8], file: &[u8], asked: u64) {
 }
 
 // Writes the refusals of the other calls that read.
-fn readings(name: &[u8], file: &[u8], asked: u64) {
+fn readings(lines: &mut Lines, name: &[u8], file: &[u8], asked: u64) {
     let section = section_refusal(file, EntryNumber(asked), 7);
     let array = data_array_refusal(file, EntryNumber(asked));
     let checked = check_order(file);
-    print(
+    lines.print(
         EVERY_ON,
         0,
         name,
@@ -50,14 +50,20 @@ fn readings(name: &[u8], file: &[u8], asked: u64) {
 }
 
 // Every call on the lent bytes, for entry and extension `asked`; 0 stands for accepted.
-pub(crate) fn every_in(asked: u64, name: &[u8], room: &mut [u8], lent: usize)
+pub(crate) fn every_in(lines: &mut Lines, asked: u64, name: &[u8], room: &mut [u8], lent: usize)
     requires { (length room.old ≡ 1623632) × (lent ≤ 789176) }
 {
-    openings(name, &room[0..lent], asked);
-    readings(name, &room[0..lent], asked);
+    openings(lines, name, &room[0..lent], asked);
+    readings(lines, name, &room[0..lent], asked);
     save(room, lent);
-    let answer = append_line(&mut [], &[1, 4, 0, 0], b" words 9", &mut room[0..lent]);
-    print(EVERY_END, 0, name, answer.refusal as u64, 0, 0, 0);
-    compared(name, room, 0, lent);
-    end(name);
+    let answer = append_line(
+        lines,
+        &mut [],
+        &[1, 4, 0, 0],
+        b" words 9",
+        &mut room[0..lent],
+    );
+    lines.print(EVERY_END, 0, name, answer.refusal as u64, 0, 0, 0);
+    compared(lines, name, room, 0, lent);
+    lines.end(name);
 }

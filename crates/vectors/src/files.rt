@@ -1,7 +1,7 @@
 // The room: the bytes of the file that the calls are made on, the bytes saved before a call, and the files kept.
 ghost use Rattle.std.specs.Prelude.{◌≡◌, ◌+◌, ◌≤◌, length};
 
-use super::printing::wrong;
+use super::printing::Lines;
 use super::reading::{bits_at, byte_at, bytes_of, int4, least};
 use words::ByteOrder;
 
@@ -43,22 +43,22 @@ pub(crate) fn changed(room: &[u8], first: usize, lent: usize) -> bool
     let from = least(first, BEHIND);
     let bytes = bytes_of(room, from, lent + BEHIND);
     let saved = bytes_of(room, SAVED + from, SAVED + lent + BEHIND);
-    !check::same(bytes, saved)
+    bytes != saved
 }
 
 // Where the file of a letter is kept.
-fn kept_at(letter: &[u8]) -> usize
+fn kept_at(lines: &mut Lines, letter: &[u8]) -> usize
     ensures { result ≤ 1623152 }
 {
     let byte = byte_at(letter, 1);
     if letter.len() != 2 {
-        wrong();
+        lines.wrong();
         KEPT
     } else if byte < b'A' {
-        wrong();
+        lines.wrong();
         KEPT
     } else if b'Z' < byte {
-        wrong();
+        lines.wrong();
         KEPT
     } else {
         KEPT + 480 * (byte - b'A') as usize
@@ -66,17 +66,17 @@ fn kept_at(letter: &[u8]) -> usize
 }
 
 // Keeps a file of 480 bytes under a letter.
-pub(crate) fn keep(room: &mut [u8], letter: &[u8])
+pub(crate) fn keep(lines: &mut Lines, room: &mut [u8], letter: &[u8])
     requires { length room.old ≡ 1623632 }
 {
-    copy(room, 0, kept_at(letter), 480);
+    copy(room, 0, kept_at(lines, letter), 480);
 }
 
 // Takes a file of 480 bytes that was kept.
-pub(crate) fn take(room: &mut [u8], letter: &[u8])
+pub(crate) fn take(lines: &mut Lines, room: &mut [u8], letter: &[u8])
     requires { length room.old ≡ 1623632 }
 {
-    copy(room, kept_at(letter), 0, 480);
+    copy(room, kept_at(lines, letter), 0, 480);
 }
 
 // Fills bytes with one.
@@ -95,18 +95,19 @@ fn order_of(file: &[u8]) -> ByteOrder {
 }
 
 // Writes a number of 1, 4 or 8 bytes at an offset.
-fn put_one(order: ByteOrder, file: &mut [u8], at: usize, width: usize, bits: u64)
+fn put_one(lines: &mut Lines, order: ByteOrder, file: &mut [u8], at: usize, width: usize, bits: u64)
     requires { at + 8 ≤ length file.old }
 {
     match width {
         1 => file[at] = (bits % 256) as u8,
-        4 => words::put_i32(order, file, at, int4(bits)),
+        4 => words::put_i32(order, file, at, int4(lines, bits)),
         _ => words::put_u64(order, file, at, bits),
     }
 }
 
 // Writes the numbers of a list one after another.
 pub(crate) fn put_all(
+    lines: &mut Lines,
     order: ByteOrder,
     file: &mut [u8],
     from: usize,
@@ -116,24 +117,31 @@ pub(crate) fn put_all(
     let mut at = from;
     for i in 0..values.len() {
         if file.len() < 8 {
-            return wrong();
+            return lines.wrong();
         }
         if file.len() - 8 < at {
-            return wrong();
+            return lines.wrong();
         }
-        put_one(order, file, at, width, bits_at(values, i));
-        at = std::num::wrapping_add_usize(at, width);
+        put_one(lines, order, file, at, width, bits_at(values, i));
+        at = at.wrapping_add(width);
     }
 }
 
 // Writes the numbers of a list but the first, which is their place, over the lent bytes, in the order of the file.
-pub(crate) fn put(room: &mut [u8], lent: usize, at: usize, width: usize, values: &[i64])
+pub(crate) fn put(
+    lines: &mut Lines,
+    room: &mut [u8],
+    lent: usize,
+    at: usize,
+    width: usize,
+    values: &[i64],
+)
     requires { lent ≤ length room.old }
 {
     if values.len() < 2 {
-        wrong();
+        lines.wrong();
     } else {
         let order = order_of(room);
-        put_all(order, &mut room[0..lent], at, width, &values[1..]);
+        put_all(lines, order, &mut room[0..lent], at, width, &values[1..]);
     }
 }

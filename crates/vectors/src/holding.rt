@@ -4,7 +4,7 @@ ghost use Rattle.std.specs.Prelude.{◌<◌, ◌≤◌};
 
 use super::first_record::recorded;
 use super::lists::at_most;
-use super::printing::{RECORD, TRUE, end, print};
+use super::printing::{Lines, RECORD, TRUE};
 use super::reading::{bits_at, bytes_of};
 use classic::{DescriptorNumbers, EntryNumber, OpenFile, RecordNumber, WordNumber, open_file_of};
 use words::ByteOrder;
@@ -114,34 +114,34 @@ pub(crate) fn left(before: OpenFile, after: OpenFile, record: &mut [u8]) {
 }
 
 // Opens a file and holds its record: the line of a case that has a name; answers the refusal.
-pub(crate) fn open_in(name: &[u8], record: &mut [u8], file: &[u8]) -> u32 {
+pub(crate) fn open_in(lines: &mut Lines, name: &[u8], record: &mut [u8], file: &[u8]) -> u32 {
     let answer = open_file_of(file);
     let opened = answer.file;
     write_record(opened, record, 0);
     if name.len() != 0 {
-        recorded(name, answer);
+        recorded(lines, name, answer);
     }
     answer.refusal
 }
 
 // Holds the record of a file with another number in one of the fields, which are counted from 1.
-pub(crate) fn alter_in(values: &[i64], record: &mut [u8], file: &[u8]) {
-    open_in(&[], record, file);
-    let i = at_most(43, std::num::wrapping_sub_u64(bits_at(values, 0), 1));
+pub(crate) fn alter_in(lines: &mut Lines, values: &[i64], record: &mut [u8], file: &[u8]) {
+    open_in(lines, &[], record, file);
+    let i = at_most(lines, 43, bits_at(values, 0).wrapping_sub(1));
     set(record, i, bits_at(values, 1));
 }
 
 // Ends the line of a call. Of one through the record it says whether the record changed, and whether it is the one that the
 // file has.
-pub(crate) fn end_call(name: &[u8], record: &[u8], file: &[u8]) {
+pub(crate) fn end_call(lines: &mut Lines, name: &[u8], record: &[u8], file: &[u8]) {
     if record.len() == HELD {
         let mut fresh = [0u8; HELD];
-        let refusal = open_in(&[], &mut fresh, file);
+        let refusal = open_in(lines, &[], &mut fresh, file);
         let held = bytes_of(record, 0, 352);
-        let same = check::same(held, bytes_of(record, 352, HELD));
-        let holds = refusal == 0 && check::same(held, bytes_of(&fresh, 0, 352));
-        print(RECORD, !same as u64, name, 0, 0, 0, 0);
-        print(TRUE, !holds as u64, name, 0, 0, 0, 0);
+        let same = held == bytes_of(record, 352, HELD);
+        let holds = refusal == 0 && held == bytes_of(&fresh, 0, 352);
+        lines.print(RECORD, !same as u64, name, 0, 0, 0, 0);
+        lines.print(TRUE, !holds as u64, name, 0, 0, 0, 0);
     }
-    end(name);
+    lines.end(name);
 }

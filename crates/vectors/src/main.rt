@@ -14,6 +14,7 @@ mod reading;
 mod writing;
 
 ghost use Rattle.std.specs.Prelude.{◌≡◌, ◌≤◌, length};
+ghost use Rattle.std.specs.Io.{ReadsAtMost};
 
 use answers::{checked, handed_data, indexed, opened, sectioned, shown, tabled};
 use batching::batch_in;
@@ -21,32 +22,36 @@ use every::every_in;
 use files::{ROOM, fill, keep, put, take};
 use first_record::{described, extended, validated};
 use holding::{HELD, alter_in, open_in};
-use libc::STDIN_FILENO;
-use printing::wrong;
+use printing::Lines;
 use reading::{bits_at, byte_at, bytes_before, bytes_of, find, int4, list, position};
+use std::io::{self, Read, Stdin};
 use writing::{append_in, create_in, update_in};
 
 // A script has fewer bytes than this.
 const SCRIPT: usize = 131072;
 
 // Runs a command that reads the lent bytes.
-fn ask(command: usize, a: u64, b: u64, name: &[u8], file: &[u8]) {
+fn ask(lines: &mut Lines, command: usize, a: u64, b: u64, name: &[u8], file: &[u8]) {
     match command {
-        10 => validated(name, file),
-        11 => described(name, file),
-        12 => extended(name, file, a),
-        13 => opened(name, file, a),
-        14 => tabled(name, file, a),
-        15 => indexed(name, file, a),
-        16 => sectioned(name, file, a, int4(b)),
-        17 => handed_data(name, file, a),
-        18 => checked(name, file),
-        _ => shown(name, file, a, b),
+        10 => validated(lines, name, file),
+        11 => described(lines, name, file),
+        12 => extended(lines, name, file, a),
+        13 => opened(lines, name, file, a),
+        14 => tabled(lines, name, file, a),
+        15 => indexed(lines, name, file, a),
+        16 => {
+            let identifier = int4(lines, b);
+            sectioned(lines, name, file, a, identifier);
+        }
+        17 => handed_data(lines, name, file, a),
+        18 => checked(lines, name, file),
+        _ => shown(lines, name, file, a, b),
     }
 }
 
 // Runs a command on the lent bytes.
 fn run(
+    lines: &mut Lines,
     command: usize,
     values: &[i64],
     rest: &[u8],
@@ -62,24 +67,27 @@ fn run(
     match command {
         0 => fill(room, lent, b),
         1 => {}
-        2 => keep(room, rest),
-        3 => take(room, rest),
-        4 => put(room, lent, a as usize, 1, values),
-        5 => put(room, lent, bytes_before(a), 4, values),
-        6 => put(room, lent, bytes_before(a), 8, values),
-        7 => create_in(values, name, room, lent),
-        8 => append_in(&mut [], values, rest, name, room, lent),
-        9 => every_in(a, name, room, lent),
-        20 => batch_in(&mut [], values, rest, name, room, lent),
-        21 => update_in(&mut [], values, rest, name, room, lent),
-        22 => append_in(record, values, rest, name, room, lent),
-        23 => batch_in(record, values, rest, name, room, lent),
-        24 => update_in(record, values, rest, name, room, lent),
-        25 => {
-            open_in(name, record, &room[0..lent]);
+        2 => keep(lines, room, rest),
+        3 => take(lines, room, rest),
+        4 => put(lines, room, lent, a as usize, 1, values),
+        5 | 6 => {
+            let at = bytes_before(lines, a);
+            let width = if command == 5 { 4 } else { 8 };
+            put(lines, room, lent, at, width, values);
         }
-        26 => alter_in(values, record, &room[0..lent]),
-        _ => ask(command, a, b, name, &room[0..lent]),
+        7 => create_in(lines, values, name, room, lent),
+        8 => append_in(lines, &mut [], values, rest, name, room, lent),
+        9 => every_in(lines, a, name, room, lent),
+        20 => batch_in(lines, &mut [], values, rest, name, room, lent),
+        21 => update_in(lines, &mut [], values, rest, name, room, lent),
+        22 => append_in(lines, record, values, rest, name, room, lent),
+        23 => batch_in(lines, record, values, rest, name, room, lent),
+        24 => update_in(lines, record, values, rest, name, room, lent),
+        25 => {
+            open_in(lines, name, record, &room[0..lent]);
+        }
+        26 => alter_in(lines, values, record, &room[0..lent]),
+        _ => ask(lines, command, a, b, name, &room[0..lent]),
     }
 }
 
@@ -100,7 +108,7 @@ fn takes(command: usize, count: usize, more: bool) -> bool {
 }
 
 // How many bytes are lent after a command.
-fn lent_after(command: usize, a: u64, lent: usize) -> usize
+fn lent_after(lines: &mut Lines, command: usize, a: u64, lent: usize) -> usize
     requires { lent ≤ 789176 }
     ensures { result ≤ 789176 }
 {
@@ -111,13 +119,14 @@ fn lent_after(command: usize, a: u64, lent: usize) -> usize
     } else if a <= 789176 {
         a as usize
     } else {
-        wrong();
+        lines.wrong();
         0
     }
 }
 
 // Reads the numbers of a command and runs it; answers how many bytes are lent then.
 fn run_command(
+    lines: &mut Lines,
     command: usize,
     args: &[u8],
     name: &[u8],
@@ -133,17 +142,23 @@ fn run_command(
     let count = read.count;
     let rest = bytes_of(args, read.next, args.len());
     if !takes(command, count, rest.len() != 0) {
-        wrong();
+        lines.wrong();
         return lent;
     }
     let values = &numbers[0..count];
-    let after = lent_after(command, bits_at(values, 0), lent);
-    run(command, values, rest, name, record, room, after);
+    let after = lent_after(lines, command, bits_at(values, 0), lent);
+    run(lines, command, values, rest, name, record, room, after);
     after
 }
 
 // Runs a line of the script: a command, its numbers, and behind a colon and a space the name of a case.
-fn run_line(line: &[u8], record: &mut [u8], room: &mut [u8], lent: usize) -> usize
+fn run_line(
+    lines: &mut Lines,
+    line: &[u8],
+    record: &mut [u8],
+    room: &mut [u8],
+    lent: usize,
+) -> usize
     requires { (length room.old ≡ 1623632) × (lent ≤ 789176) }
     ensures { result ≤ 789176 }
 {
@@ -159,19 +174,16 @@ fn run_line(line: &[u8], record: &mut [u8], room: &mut [u8], lent: usize) -> usi
         &head[0..end],
     );
     let name = bytes_of(line, colon + 2, line.len());
-    run_command(command, &head[end..], name, record, room, lent)
+    run_command(lines, command, &head[end..], name, record, room, lent)
 }
 
 // Runs the lines of a script.
-fn run_lines(script: &[u8], record: &mut [u8], room: &mut [u8])
+fn run_lines(lines: &mut Lines, script: &[u8], record: &mut [u8], room: &mut [u8])
     requires { length room.old ≡ 1623632 }
 {
     let mut lent = 0;
-    let mut at = 0;
-    while at < script.len() {
-        let end = find(script, at, b'\n');
-        lent = run_line(&script[at..end], record, room, lent);
-        at = end + 1;
+    for line in script.split(|byte| *byte == b'\n') {
+        lent = run_line(lines, line, record, room, lent);
     }
 }
 
@@ -185,14 +197,31 @@ fn space() -> [u8; ROOM] {
     [0; ROOM]
 }
 
-// Reads the script and runs it.
-fn main() {
+// Reads until the bytes are full or the input ends, and answers how many were read.
+fn read_full(input: &mut Stdin, bytes: &mut [u8]) -> io::Result<usize>
+    ensures { ReadsAtMost result bytes.new }
+{
+    let mut done = 0;
+    while done < bytes.len() {
+        let count = input.read(&mut bytes[done..])?;
+        if count == 0 {
+            break;
+        }
+        done += count;
+    }
+    Ok(done)
+}
+
+// Reads the script and runs it. A read or a write that fails ends the run, and is its error.
+fn main(rt: HostRuntime) -> io::Result<()> {
+    let mut lines = Lines::new(rt.stdout());
     let mut script = unread();
     let mut record = [0u8; HELD];
     let mut room = space();
-    let count = io::read_full(STDIN_FILENO, &mut script);
+    let count = read_full(&mut rt.stdin(), &mut script)?;
     if count == script.len() {
-        wrong();
+        lines.wrong();
     }
-    run_lines(&script[..count], &mut record, &mut room);
+    run_lines(&mut lines, &script[..count], &mut record, &mut room);
+    lines.into_outcome()
 }

@@ -1,7 +1,7 @@
 // Reading a line of the script: its words and its numbers.
 ghost use Rattle.std.specs.Prelude.{◌+◌, ◌≤◌, length};
 
-use super::printing::wrong;
+use super::printing::Lines;
 
 // What was read: how many numbers, and where the reading stopped.
 #[derive(Clone, Copy)]
@@ -42,14 +42,14 @@ pub(crate) fn bytes_of(bytes: &[u8], from: usize, to: usize) -> &[u8] {
 }
 
 // How many bytes stand before a word, which is counted from 1.
-pub(crate) fn bytes_before(word: u64) -> usize
+pub(crate) fn bytes_before(lines: &mut Lines, word: u64) -> usize
     ensures { result ≤ 0x4000_0000 }
 {
     if word < 1 {
-        wrong();
+        lines.wrong();
         0
     } else if 0x1000_0000 < word {
-        wrong();
+        lines.wrong();
         0
     } else {
         4 * (word - 1) as usize
@@ -66,14 +66,12 @@ pub(crate) fn find(bytes: &[u8], from: usize, byte: u8) -> usize
     requires { from ≤ length bytes.now }
     ensures { (from ≤ result) × (result ≤ length bytes.now) }
 {
-    let mut at = from;
-    while at < bytes.len() {
+    for at in from..bytes.len() {
         if bytes[at] == byte {
             return at;
         }
-        at += 1;
     }
-    at
+    bytes.len()
 }
 
 // Which of the words of a table this is, counted from 0; past the last if it is none.
@@ -82,7 +80,7 @@ pub(crate) fn position(table: &[u8], word: &[u8]) -> usize {
     let mut at = 0;
     while at < table.len() {
         let end = find(table, at, b' ');
-        if check::same(&table[at..end], word) {
+        if &table[at..end] == word {
             return before;
         }
         before += 1;
@@ -122,7 +120,7 @@ fn digits(bytes: &[u8], from: usize) -> Magnitude {
 // The bits of a number with a sign.
 fn bits_of(magnitude: u64, negative: bool) -> u64 {
     if negative {
-        std::num::wrapping_sub_u64(0, magnitude)
+        magnitude.wrapping_neg()
     } else {
         magnitude
     }
@@ -130,7 +128,7 @@ fn bits_of(magnitude: u64, negative: bool) -> u64 {
 
 // Reads a space and a number, which may be negative; its digits stand for at most 2^63.
 fn read_number(bytes: &[u8], at: usize) -> Value {
-    let negative = byte_at(bytes, std::num::wrapping_add_usize(at, 1)) == b'-';
+    let negative = byte_at(bytes, at.wrapping_add(1)) == b'-';
     let from = std::num::wrapping_add_usize(at, if negative { 2 } else { 1 });
     let read = digits(bytes, from);
     if byte_at(bytes, at) != b' ' || read.next == from || 0x8000_0000_0000_0000 < read.value {
@@ -147,19 +145,19 @@ fn read_number(bytes: &[u8], at: usize) -> Value {
 pub(crate) fn list(bytes: &[u8], from: usize, values: &mut [i64]) -> Read
     ensures { result.count ≤ length values.old }
 {
-    let mut count = 0;
     let mut next = from;
-    while count < values.len() {
+    for count in 0..values.len() {
         let read = read_number(bytes, next);
         if read.next == next {
             return Read { count, next };
         }
-        let value = read.value;
-        values[count] = value;
-        count += 1;
+        values[count] = read.value;
         next = read.next;
     }
-    Read { count, next }
+    Read {
+        count: values.len(),
+        next,
+    }
 }
 
 // The bits of a number of a list, 0 past its end.
@@ -172,9 +170,9 @@ pub(crate) fn bits_at(values: &[i64], i: usize) -> u64 {
 }
 
 // The Integer*4 with these bits.
-pub(crate) fn int4(bits: u64) -> i32 {
+pub(crate) fn int4(lines: &mut Lines, bits: u64) -> i32 {
     if 0x7fff_ffff < bits && bits < 0xffff_ffff_8000_0000 {
-        wrong();
+        lines.wrong();
     }
     words::signed32((bits % 0x1_0000_0000) as u32)
 }
