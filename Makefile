@@ -11,35 +11,33 @@ help:
 	@echo '                prove and build the listing program, where that is not done yet, and list a file'
 	@echo 'make examples   write the files of examples/ again'
 	@echo 'make bench      time the calls of the library against careful C of the same rules (bench/)'
-	@echo 'make test       prove every crate from nothing, then run every outside test (tests/*/run)'
+	@echo 'make test       prove every crate, then run every outside test (tests/*/run)'
 
-# Runs rt with a line on standard error for each crate that it proves, none for a crate that has not changed. All that rt
-# prints is in a file below target/, and is shown when rt fails.
+# Runs rt in a crate's folder, with a line on standard error for each crate that it proves, none for a crate that has not changed.
+# All that rt prints is in a file below target/, and is shown when rt fails.
 proved = mkdir -p target && \
-	{ rt $(1) 2>&1 | tee target/$(2) | sed -un 's/^rt: \([a-z0-9_]* proved ([0-9]* s)\)$$/\1/p' >&2 || \
-	{ cat target/$(2) >&2; exit 1; }; }
+	{ (cd crates/$(2) && rt $(1)) </dev/null 2>&1 | tee target/$(3) | \
+	awk '/^crate / { name = $$2; sub(/:/, "", name) } /^logic=proved/ { print name " proved"; fflush() }' >&2 || \
+	{ cat target/$(3) >&2; exit 1; }; }
 
-# The linker is the kit's; the kit stands two levels above the guide that rt doc names.
+# The linker is the kit's, which stands in the folder of the page that rt doc names.
 lib:
-	@echo 'make lib: proving the library, a few minutes the first time ..' >&2
-	@$(call proved,staticlib classic,lib.log)
+	@echo 'make lib: proving the library, some minutes the first time ..' >&2
+	@$(call proved,lib,classic_c,lib.log)
 	@mkdir -p target/lib
-	@cp target/staticlib/libclassic.a target/lib/libclassic.a
-	@"$$(dirname "$$(dirname "$$(rt doc)")")/on/$$(uname -m)/toolchain/bin/ld.lld" -m elf_x86_64 -shared \
+	@cp crates/classic_c/out/libclassic_c.a target/lib/libclassic.a
+	@"$$(dirname "$$(rt doc)")/toolchain/bin/ld.lld" -m elf_x86_64 -shared \
 		-soname libclassic.so --whole-archive target/lib/libclassic.a -o target/lib/libclassic.so
 	@echo 'make lib: target/lib/libclassic.a and target/lib/libclassic.so are written' >&2
 
-# A program runs with the loader and the C library of the kit, and on Arm under the kit's emulator.
+# rt run proves and builds the program where that is not done yet, and runs it, on no input; then it is run on the file.
 list:
 	@if [ -z "$$FILE" ]; then echo 'usage: make list FILE=examples/a.classic' >&2; exit 2; fi
 	@if [ -d "$$FILE" ] || ! [ -r "$$FILE" ]; then echo "make list: $$FILE is not there or cannot be read" >&2; exit 2; fi
-	@if ! [ -e target/bin/list ]; then \
-		echo 'make list: proving and building the listing program, two minutes or so the first time ..' >&2; fi
-	@$(call proved,check list,list.log)
-	@tools=$$(dirname "$$(dirname "$$(rt doc)")")/on/$$(uname -m)/toolchain; \
-		set -- "$$tools/lib/ld-linux-x86-64.so.2" --library-path "$$tools/lib" target/bin/list; \
-		if [ -x "$$tools/bin/qemu-x86_64" ]; then set -- "$$tools/bin/qemu-x86_64" "$$@"; fi; \
-		"$$@" <"$$FILE"
+	@if ! [ -e crates/list/out/list ]; then \
+		echo 'make list: proving and building the listing program, some minutes the first time ..' >&2; fi
+	@$(call proved,run,list,list.log)
+	@crates/list/out/list <"$$FILE"
 
 examples:
 	@examples/write

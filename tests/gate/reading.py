@@ -5,7 +5,7 @@ from typing import NamedTuple
 
 CLAUSES = {"requires", "ensures", "ghost"}
 BEFORE_FN = {"const", "unsafe", "extern"}
-OPENING, CLOSING = set("([{"), set(")]}")
+OPENING, CLOSING, SIGNS = set("([{"), set(")]}"), set("(){}.;,@⟦")
 
 RATTLE = re.compile(
     r"""(?P<blank> \s+ | //[^\n]*)
@@ -45,7 +45,7 @@ class Token(NamedTuple):
 
 
 class Function(NamedTuple):
-    """A public function: its &mut parameters, as antt names them, whether it has an answer, and its clauses."""
+    """A public function: its &mut parameters, whether it has an answer, and its clauses."""
 
     name: str
     place: int
@@ -118,13 +118,21 @@ def tokens(text, at=0):
 
 
 def plain(name):
-    """Gives an antt NAME without « », where it is the same name without them."""
-    return name[1:-1] if name[0] == "«" and "_" not in name else name
+    """Gives an antt NAME without the « » that it needs where antt reserves the word."""
+    return name[1:-1] if name[0] == "«" else name
 
 
 def antt_words(text):
-    """Gives the names, signs and quoted texts of an antt TEXT."""
-    return [plain(token.word) for token in antt_tokens(text)]
+    """Gives the names, signs and quoted texts of an antt TEXT; a dot and the name that it stands tight between are one, a field."""
+    words, end = [], None
+    for token in antt_tokens(text):
+        if words and words[-1] == "." and tight and token.place == end and token.word not in SIGNS:
+            words[-1] = "." + plain(token.word)
+        else:
+            words.append(plain(token.word))
+        tight = len(words) > 1 and token.word == "." and token.place == end
+        end = token.place + len(token.word)
+    return words
 
 
 def end_of_group(words, start):
@@ -138,17 +146,19 @@ def end_of_group(words, start):
 
 
 def lent_parameters(parameters):
-    """Gives the antt names of the &mut parameters; a mut deeper in a parameter's type cannot be read."""
+    """Gives the names of the &mut parameters; a mut deeper in a parameter's type cannot be read, and none is named as the answer is."""
     words = [",", *(token.word for token in parameters)]
     names = []
     for at, word in enumerate(words):
+        if word == "result" and words[at + 1 : at + 2] == [":"] and words[at + 2 : at + 3] != [":"] and words[at - 1] != ":":
+            raise Unreadable("a parameter with the name of the answer", parameters[at - 1].place)
         if word != "mut" or words[at - 1] == ",":
             continue
         before = [other for other in words[:at] if other[0] != "'"]
         if before[-1] == "&" and words[at + 1] == "self":
             names.append("self")
         elif before[-2:] == [":", "&"]:
-            names.append(f"«{before[-3]}»" if "_" in before[-3] else before[-3])
+            names.append(before[-3])
         else:
             raise Unreadable("a parameter with a mut inside its type", parameters[at - 1].place)
     return names
@@ -166,9 +176,19 @@ def contract(words):
     raise Unreadable("a function with no body", words[0].place)
 
 
+def past_generics(words):
+    """Gives the place of the ( of the parameters of a function whose name begins WORDS; the > of an arrow closes nothing."""
+    depth = 0
+    for at, token in enumerate(words):
+        if token.word == "(" and depth == 0:
+            return at
+        depth += (token.word == "<") - (token.word == ">" and words[at - 1].word != "-")
+    raise Unreadable("a function with no parameters", words[0].place)
+
+
 def function(words, in_inner):
-    """Reads the public function whose name begins WORDS; between it and the first ( Rattle has only lifetimes."""
-    start = next((at for at, token in enumerate(words) if token.word == "("), 0)
+    """Reads the public function whose name begins WORDS."""
+    start = past_generics(words)
     end = end_of_group(words, start)
     after = [token.word for token in words[end + 1 : end + 5]]
     return Function(

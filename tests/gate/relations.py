@@ -13,9 +13,9 @@ class Relation(NamedTuple):
     module: str
     places: str
 
-    def homes(self):
-        """Gives the names of its module, in its own crate and in the others."""
-        return [f"Rattle·{self.crate}.specs.{self.module}", f"Rattle·{self.crate}·specs.specs.{self.module}"]
+    def home(self):
+        """Gives the name of its module."""
+        return f"Rattle.{self.crate}.specs.{self.module}"
 
 
 # The relations of which a theorem says that no two outcomes satisfy them.
@@ -43,10 +43,11 @@ RELATIONS = {
     "Lists": Relation("listing", "Listing", "value value answer exit"),
     "Prints": Relation("listing", "Listing", "value value answer exit"),
 }
-# What no ghost use may bring under another meaning, besides the relations.
-LENT_NAMES = {"now", "⌜_⌝"}
-BRACES = re.compile(r"(?P<path>\S+(?: \. \S+)*) \. \{ (?P<items>[^{}]*) \}")
-NAME = re.compile(r"[\w«][\w'·»-]*")
+# What no ghost use may bring under another meaning, besides the relations: the answer, and the fields by which a clause speaks of a loan.
+LENT_NAMES = {"result", "now", "old", "new", "entry", "exit"}
+BRACES = re.compile(r"(?P<path>\S+(?: \.\S+)*) \. \{ (?P<items>[^{}]*) \}")
+NAME = re.compile(r"[\w][\w'-]*")
+FIELD = re.compile(r"\.[\w][\w'-]*")
 # What hides what an argument says: a hole, Rattle in brackets, an action.
 OPAQUE = {"_", "?", "⟦", "←"}
 
@@ -70,20 +71,21 @@ def fault_in_use(text):
     if names is None:
         return "a ghost use is not of the form MODULE.{NAME, ..}"
     for name, module in names:
-        if name in LENT_NAMES or name in RELATIONS and module not in RELATIONS[name].homes():
+        if name in LENT_NAMES or name in RELATIONS and module != RELATIONS[name].home():
             return f"a ghost use brings {name} from {module}"
-        if "_" in name and re.search(r"[^\W_]", name):
+        if "◌" in name and re.search(r"\w", name):
             return f"a ghost use brings {name}, an operator with a word in it, which could change how a clause reads"
     return None
 
 
 def grouped(words):
-    """Gives the arguments that WORDS spell, each a name or a group in parentheses, or nothing."""
+    """Gives the arguments that WORDS spell, each a name or a group in parentheses with its fields, or nothing."""
     arguments, depth = [], 0
     for word in words:
-        if depth == 0 and word != "(" and not NAME.fullmatch(word):
+        is_field = bool(arguments) and FIELD.fullmatch(word)
+        if depth == 0 and word != "(" and not NAME.fullmatch(word) and not is_field:
             return None
-        if depth == 0:
+        if depth == 0 and not is_field:
             arguments.append([])
         arguments[-1].append(word)
         depth += (word in OPENING) - (word in CLOSING)
@@ -91,38 +93,36 @@ def grouped(words):
 
 
 def application(text):
-    """Gives NAME, RELATION and the arguments of the clause λ NAME. ⌜ RELATION ARGUMENT .. ⌝, or nothing."""
-    words = antt_words(text)
-    if words[:1] + words[2:4] + words[-1:] != ["λ", ".", "⌜", "⌝"] or not NAME.fullmatch(words[1]):
+    """Gives RELATION and the arguments of the clause RELATION ARGUMENT .., or nothing."""
+    arguments = grouped(antt_words(text))
+    if not arguments or len(arguments[0]) != 1 or not NAME.fullmatch(arguments[0][0]):
         return None
-    arguments = grouped(words[4:-1])
-    return (words[1], arguments[0][0], arguments[1:]) if arguments else None
+    return arguments[0][0], arguments[1:]
 
 
-def open_in(argument, name, lent):
-    """Gives the word of an ARGUMENT by which it may depend on the answer NAME or on what LENT parameters end as."""
+def open_in(argument, lent):
+    """Gives the word of an ARGUMENT by which it may depend on the answer or on what LENT parameters end as."""
     for at, word in enumerate(argument):
-        if word == name or word == "exit" or word in RELATIONS or word in OPAQUE:
+        if word in ("result", ".new", ".exit") or word in RELATIONS or word in OPAQUE:
             return word
-        if word in lent and argument[at + 1 : at + 3] not in ([".", "entry"], [".", "exit"]):
+        if word in lent and argument[at + 1 : at + 2] != [".old"]:
             return word
     return None
 
 
-def fault_in_arguments(function, name, relation, arguments):
-    """Says what is wrong with what RELATION is handed, where NAME is the FUNCTION's answer, or nothing."""
+def fault_in_arguments(function, relation, arguments):
+    """Says what is wrong with what RELATION is handed in the clause of a FUNCTION, or nothing."""
     places = RELATIONS[relation].places.split()
     if len(arguments) != len(places):
         return f"hands {relation} {len(arguments)} arguments, and it takes {len(places)}"
     at = {kind: [a for a, place in zip(arguments, places) if place == kind] for kind in ("value", "answer", "exit")}
-    answer = [[name]] if function.answers else []
-    if at["answer"] != answer or answer == [["_"]]:
+    if at["answer"] != ([["result"]] if function.answers else []):
         return f"does not hand its answer to {relation} as the answer"
-    ends = [["(", "now", "(", parameter, ".", "exit", ")", ")"] for parameter in function.lent]
+    ends = [[parameter, ".new"] for parameter in function.lent]
     if sorted(at["exit"]) != sorted(ends):
-        return f"does not hand now (P .exit) of each &mut parameter P to {relation} as what is left"
+        return f"does not hand P.new of each &mut parameter P to {relation} as what is left"
     for argument in at["value"]:
-        if word := open_in(argument, name, function.lent):
+        if word := open_in(argument, function.lent):
             return f"hands {relation} a value that depends on its outcome, by {word}"
     return None
 
@@ -133,10 +133,10 @@ def fault_in_clause(function, text, modules):
         return "has no answer and no &mut parameter, so its contract says nothing"
     read = application(text)
     if not read:
-        return "has an ensures that is not of the form λ NAME. ⌜ RELATION ARGUMENT .. ⌝"
-    name, relation, arguments = read
+        return "has an ensures that is not of the form RELATION ARGUMENT .."
+    relation, arguments = read
     if relation not in RELATIONS:
         return "has an ensures that is none of the relations " + ", ".join(sorted(RELATIONS))
-    if modules.get(relation) not in RELATIONS[relation].homes():
-        return f"has {relation}, which no ghost use brings from {RELATIONS[relation].homes()[0]}"
-    return fault_in_arguments(function, name, relation, arguments)
+    if modules.get(relation) != RELATIONS[relation].home():
+        return f"has {relation}, which no ghost use brings from {RELATIONS[relation].home()}"
+    return fault_in_arguments(function, relation, arguments)
