@@ -104,6 +104,8 @@ def tokens(text, at=0):
             at = past_comment(text, start, "/*", "*/")
         elif piece[0] in CLAUSES:
             clause = Token(piece[0], start)
+        elif clause and piece[0] == "*":
+            clause = Token(clause.word + "*", clause.place)
         elif clause and piece[0] in ends:
             begin, at = at, past_antt(text, at, ends[piece[0]])
             word = "ghost use" if piece[0] == "use" else clause.word
@@ -170,7 +172,7 @@ def contract(words):
     for token in words:
         if depth == 0 and token.word in ("{", ";"):
             return clauses
-        if depth == 0 and token.word in CLAUSES:
+        if depth == 0 and token.word.rstrip("*") in CLAUSES:
             clauses.append(token)
         depth += (token.word in OPENING) - (token.word in CLOSING)
     raise Unreadable("a function with no body", words[0].place)
