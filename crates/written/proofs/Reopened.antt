@@ -30,7 +30,6 @@ use Rattle.storing.specs.Handed.{Handed, nsec_in, ldata_in, nword_in}
 use Rattle.placing.specs.Placing.{entry_start, numbers_after}
 use Rattle.storing.specs.Writing.{slot_writes, area_written, entry_written}
 use Rattle.storing.specs.Bounds.{Accepted}
-use Rattle.storing.proofs.Lengths.{counted}
 use Rattle.written.proofs.AppendLeaves.{new, then, areas_then, slot, indexed, counted-last, left, length-area, length-entry}
 use Rattle.written.proofs.Frame.{counts-keep}
 use Rattle.written.proofs.FirstRecordAfter.{order-new}

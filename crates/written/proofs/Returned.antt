@@ -15,7 +15,6 @@ use Rattle.words.proofs.Table.{places_same}
 use Rattle.words.proofs.Runs.{run-test}
 use Rattle.geometry.specs.Units.{place_of}
 use Rattle.descriptor.specs.declared.numbers.DescriptorNumbers.{DescriptorNumbers}
-use Rattle.descriptor.specs.declared.validating.Validated.TheVariants.{Numbers}
 use Rattle.descriptor.specs.FirstRecord.{numbers_of, addresses_of}
 use Rattle.descriptor.specs.Rules.{file_refusal}
 use Rattle.descriptor.proofs.Answered.{file-order}

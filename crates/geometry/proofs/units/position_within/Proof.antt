@@ -16,8 +16,8 @@ position_within_spec =
     (tie.spec
     (λ c. search rules)
     (λ c.
-        let a = c.before.before.args in
-        let past : a.limit < position_of a.reclen a.«record» a.word = omega (arith, mul-le-mul_left (a.«record».0 - 1) c.before.before.requires.0) in
-        sym (lt-leb (position_of a.reclen a.«record» a.word) a.limit past))
+    let a = c.before.before.args in
+    let past : a.limit < position_of a.reclen a.«record» a.word = omega (arith, mul-le-mul_left (a.«record».0 - 1) c.before.before.requires.0) in
+    sym (lt-leb (position_of a.reclen a.«record» a.word) a.limit past))
     (λ c κs. search rules)
     (λ c. rw c.position.ensures))

@@ -2,7 +2,7 @@
 use mathlib.Core.Path.{◌≡◌, sym, ap, ◌∙◌}
 use Prim.Native.Nat.{ℕ, ◌+◌, ◌*◌, ◌/◌, ◌%◌, ◌^◌, ◌≤◌}
 use native.Mathlib.Omega.{arith}
-use native.Mathlib.Nat.{add-mul, mul_right_comm, mul-add-div_right, mul-le-mul, mod-lt, div-add-mod'}
+use native.Mathlib.Nat.{add-mul, mul_right_comm, mul-add-div_right, mul-le-mul, div-add-mod'}
 use Rattle.geometry.proofs.walk.grown.Statement.{statement}
 use Rattle.geometry.proofs.walk.grown.Tie as tie
 

@@ -1,12 +1,12 @@
 -- `geometry::walk::over` meets its contract. The loop's invariant: the walk has come to an extension, and those before it are within the limit. Assumes nothing.
-use mathlib.Core.Path.{◌≡◌, refl, sym, ap, ◌∙◌}
+use mathlib.Core.Path.{◌≡◌, sym, ap, ◌∙◌}
 use mathlib.Core.Bool.{false}
 use Prim.Native.Nat.{◌-◌, ◌+◌, ◌≤◌}
 use native.Mathlib.Omega.{arith}
 use borrow.Author.Tests.{lt-ltb, le-ltb}
 use lib.Dec.{ltb}
-use Rattle.geometry.specs.Growth.{capacity_of, over_of}
-use Rattle.geometry.specs.Walk.{walk_of, Walking}
+use Rattle.geometry.specs.Growth.{over_of}
+use Rattle.geometry.specs.Walk.{walk_of}
 use Rattle.geometry.proofs.Capacities.{over_none, over_last, over-more}
 use Rattle.geometry.proofs.Parts.{walk-stands, walk-capacity}
 use Rattle.geometry.proofs.walk.over.Statement.{statement}

@@ -1,6 +1,5 @@
 -- `pieces::head::head_in` meets its contract. Assumes nothing.
 use mathlib.Core.Path.{◌≡◌, ap, ◌∙◌}
-use native.Mathlib.Omega.{arith}
 use borrow.Author.Rules.{rules, sfits_of}
 use mir.Facts.{to_z-of_z}
 use Rattle.words.specs.declared.byte_order.ByteOrder.{ByteOrder}

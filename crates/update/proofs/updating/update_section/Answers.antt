@@ -6,7 +6,7 @@ use Rattle.descriptor.proofs.Answered.{Admits, case-told, case-left}
 use Rattle.handing.specs.declared.place.PartPlace.{PartPlace}
 use Rattle.handing.specs.Parts.{no_part, section_part}
 use Rattle.handing.proofs.Handing.{whole-refused, whole_numbers}
-use Rattle.update.specs.Answers.{Update, update_in, update_at, file_at, place_named, UpdatesAt}
+use Rattle.update.specs.Answers.{update_in, update_at, file_at, place_named, UpdatesAt}
 use Rattle.update.specs.Bounds.{Writable}
 use Rattle.update.proofs.Contents.{place-first, refused}
 use Rattle.update.proofs.Places.{named-writable}

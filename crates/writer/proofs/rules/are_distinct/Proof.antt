@@ -1,6 +1,5 @@
 -- `writer::rules::are_distinct` meets its contract. The loop's invariant: no two of the identifiers passed are equal, and none of them is above the highest. Assumes nothing.
 use mathlib.Core.Path.{◌≡◌, refl, sym, ap, subst, ◌∙◌}
-use mathlib.Core.Logic.{⊎_elim}
 use mathlib.Core.Bool.{Bool, true}
 use Prim.Native.Nat.{◌+◌, ◌-◌}
 use native.Mathlib.Omega.{arith}

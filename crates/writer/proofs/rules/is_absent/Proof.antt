@@ -1,5 +1,5 @@
 -- `writer::rules::is_absent` meets its contract. The loop's invariant: the identifier is none of those passed. Assumes nothing.
-use mathlib.Core.Path.{◌≡◌, refl, sym, ap, ◌∙◌}
+use mathlib.Core.Path.{refl, sym, ap, ◌∙◌}
 use mathlib.Core.Bool.{true, false, not}
 use Prim.Native.Nat.{◌-◌}
 use native.Mathlib.Omega.{arith}
