@@ -1,7 +1,7 @@
 #!/usr/bin/env python3
 """Turns the repository's own definitions, lemmas and variables from camel case to snake case.
 
-usage: python3 tools/snake_names.py [FOLDER]   in the repository, once, right after /opt/rattle/port/port.py
+usage: python3 tools/snake_names.py [FOLDER]   in the repository, once, right after the kit's port.py
 
 A name is turned where it begins with a small letter, or where a part of it behind a dash does: numbersOf is
 numbers_of, length-lengthBytes is length-length_bytes. Types, facts and modules keep their capitals. Every .antt

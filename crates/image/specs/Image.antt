@@ -6,7 +6,7 @@ unfoldable pub part : List ℕ → ℕ → ℕ → List ℕ
 part image at n = take n (drop at image)
 
 -- the image with ys written over it from offset at on. What would stand past the image's end is left off.
--- Within bounds it is take at image ++ (ys ++ drop (at + length ys) image): splice-cut, in proofs/Splice.antt
+-- Within bounds it is take at image ++ (ys ++ drop (at + length ys) image): splice_cut, in proofs/Splice.antt
 unfoldable pub splice : List ℕ → ℕ → List ℕ → List ℕ
 splice [] at ys = []
 splice (x ∷ image) (suc at) ys = x ∷ splice image at ys

@@ -36,7 +36,7 @@ unfoldable pub numeral : ByteOrder → ℕ → ℕ → List ℕ
 numeral o n x = arranged o (little_numeral n x)
 
 -- two's complement: bits below half the range are their own value, the others are their value less the range
--- (signed-low and signed-high, in proofs/Signed.antt)
+-- (signed_low and signed_high, in proofs/Signed.antt)
 abbrev pub signed_of : Width → ℕ → ℤ
 signed_of w bits = to_z w bits
 
