@@ -20,10 +20,11 @@ proved = mkdir -p target && \
 	awk '/^crate / { name = $$2; sub(/:/, "", name) } /^logic=proved/ { print name " proved"; fflush() }' >&2 || \
 	{ cat target/$(3) >&2; exit 1; }; }
 
-# The linker is the kit's, which stands in the folder of the page that rt doc names.
+# The library is for any x86-64 processor; the kit's own choice would ask for more of one. The linker is the kit's, which stands in
+# the folder of the page that rt doc names.
 lib:
 	@echo 'make lib: proving the library, some minutes the first time ..' >&2
-	@$(call proved,lib,classic_c,lib.log)
+	@$(call proved,lib --cpu=x86-64,classic_c,lib.log)
 	@mkdir -p target/lib
 	@cp crates/classic_c/out/libclassic_c.a target/lib/libclassic.a
 	@"$$(dirname "$$(rt doc)")/toolchain/bin/ld.lld" -m elf_x86_64 -shared \
@@ -36,7 +37,7 @@ list:
 	@if [ -d "$$FILE" ] || ! [ -r "$$FILE" ]; then echo "make list: $$FILE is not there or cannot be read" >&2; exit 2; fi
 	@if ! [ -e crates/list/out/list ]; then \
 		echo 'make list: proving and building the listing program, some minutes the first time ..' >&2; fi
-	@$(call proved,run,list,list.log)
+	@$(call proved,run --cpu=x86-64,list,list.log)
 	@crates/list/out/list <"$$FILE"
 
 examples:

@@ -17,7 +17,7 @@
            return section.refusal != 0;
        }
 
-   It is built on x86-64 (level v2 or higher) at the repository's top, after make lib, with the archive or with the shared library:
+   It is built on x86-64 at the repository's top, after make lib, with the archive or with the shared library:
 
        cc -std=c99 -Iinclude -o length length.c target/lib/libclassic.a
        cc -std=c99 -Iinclude -o length length.c -Ltarget/lib -lclassic -Wl,-rpath,"$PWD/target/lib"
