@@ -37,7 +37,7 @@ list:
 	@if [ -d "$$FILE" ] || ! [ -r "$$FILE" ]; then echo "make list: $$FILE is not there or cannot be read" >&2; exit 2; fi
 	@if ! [ -e crates/list/out/list ]; then \
 		echo 'make list: proving and building the listing program, some minutes the first time ..' >&2; fi
-	@$(call proved,run --cpu=x86-64,list,list.log)
+	@$(call proved,run,list,list.log)
 	@crates/list/out/list <"$$FILE"
 
 examples:
