@@ -1,3 +1,4 @@
 -- The laws of `outcome`.
 pub mod Determined
 pub mod Either
+pub mod Refusals

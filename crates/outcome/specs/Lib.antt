@@ -1,2 +1,3 @@
 -- The relations that contracts are made of.
 pub mod Outcome
+pub mod Refusal
