@@ -14,10 +14,8 @@ pub fn put(image: &mut [u8], at: usize, bytes: &[u8])
     requires { at + length bytes.now ≤ length image.old }
     ensures { Leaves (splice image.old at bytes.now) image.new }
 {
-    let mut done = 0;
-    while done < bytes.len() {
-        image[at + done] = bytes[done];
-        done += 1;
+    for (i, byte) in bytes.iter().enumerate() {
+        image[at + i] = *byte;
     }
 }
 
@@ -28,16 +26,9 @@ pub fn zero(image: &mut [u8], at: usize, count: usize)
     requires { (at + count ≤ length image.old) × (count % 4 ≡ 0) × (count < 2 ^ 32) }
     ensures { Leaves (splice image.old at (zeros count)) image.new }
 {
-    let high = count / 4294967296;
-    let word = [
-        (high % 256) as u8,
-        (high / 256 % 256) as u8,
-        (high / 65536 % 256) as u8,
-        (high / 16777216 % 256) as u8,
-    ];
-    let mut filled = 0;
-    while filled < count {
-        put(image, at + filled, &word);
-        filled += 4;
+    let high = (count / 4294967296) as u32;
+    let word = high.to_le_bytes();
+    for i in 0..count / 4 {
+        put(image, at + 4 * i, &word);
     }
 }

@@ -1,47 +1,21 @@
--- Reading words of an image: a word in bytes and in halves, and where its bytes were written. Assumes nothing.
-use Prim.Native.Nat.{ℕ, suc, ◌+◌, ◌*◌, ◌^◌, ◌≤◌, ◌<◌}
+-- Reading words of an image: equal bytes, zero bytes, and where the bytes of a word were written. Assumes nothing.
+use Prim.Native.Nat.{ℕ, ◌+◌, ◌^◌, ◌≤◌, ◌<◌}
 use mathlib.Core.Path.{◌≡◌, ap, ◌∙◌, subst}
-use mathlib.Core.List.{List, [], ◌∷◌}
+use mathlib.Core.List.{List}
 use native.Mathlib.Omega.{arith}
-use native.Mathlib.Numerals.{add-one, add-two, add-three}
 use lib.Dec.{eqb}
-use lib.ListN.{length, get_or}
-use lib.Seq.{drop-cons}
+use lib.ListN.{length}
 use lib.IntN.{ℤ}
 use mir.Syntax.{Width}
 use mir.Val.{bits, bytes, SFits}
 use mir.Facts.{Fits-of_z}
 use Rattle.image.specs.Image.{part, all_zero}
 use Rattle.image.specs.Writes.{Write, put, writes, Follows}
-use Rattle.image.proofs.Part.{part-add, length_part}
 use Rattle.image.proofs.Writes.{BehindOf, follow-read}
 use Rattle.words.specs.declared.byte_order.ByteOrder.{ByteOrder}
-use Rattle.words.specs.Word.{little_number, little_numeral, number, numeral, bits_at, signed_at, bits_of, signed_numeral}
-use Rattle.words.proofs.Number.{length-numeral, number-numeral, little-append, bytes-part, number-turned, number-zero}
+use Rattle.words.specs.Word.{number, numeral, bits_at, signed_at, bits_of, signed_numeral}
+use Rattle.words.proofs.Number.{length-numeral, number-numeral, number-zero}
 use Rattle.words.proofs.Signed.{signed-bits, range}
-
--- the four bytes that a reader reads
-pub part-four : (image : List ℕ) (at : ℕ) → at + 4 ≤ length image
-    → part image at 4 ≡ get_or image at 0 ∷ get_or image (at + 1) 0 ∷ get_or image (at + 2) 0 ∷ get_or image (at + 3) 0 ∷ []
-unfolding part
-part-four image at h =
-    rw (add-one at, add-two at, add-three at, drop-cons image at 0 (omega arith), drop-cons image (suc at) 0 (omega arith), drop-cons image (suc (suc at)) 0 (omega arith), drop-cons image (suc (suc (suc at))) 0 (omega arith))
-
--- eight bytes are two words, the low one first
-pub little-halves : (image : List ℕ) (at : ℕ) → at + 8 ≤ length image
-    → little_number (part image at 8) ≡ little_number (part image at 4) + 4294967296 * little_number (part image (at + 4) 4)
-little-halves image at h =
-    ap little_number (part-add image at 4 4) ∙ little-append (part image at 4) (part image (at + 4) 4)
-    ∙ ap (λ (k : ℕ). little_number (part image at 4) + 256 ^ k * little_number (part image (at + 4) 4)) (length_part image at 4 (omega arith))
-
--- an integer is its little-endian reading, l, turned
-pub bits-turned : (o : ByteOrder) (w : Width) (image : List ℕ) (at : ℕ) → ((i : ℕ) → get_or image i 0 < 256) → at + bytes w ≤ length image
-    → {l t : ℕ} → l ≡ little_number (part image at (bytes w)) → t ≡ number o (little_numeral (bytes w) l) → t ≡ bits_at o w image at
-unfolding bits_at
-bits-turned o w image at b h read turned =
-    turned
-    ∙ ap (λ (l : ℕ). number o (little_numeral (bytes w) l)) read
-    ∙ number-turned o (part image at (bytes w)) (bytes w) (bytes-part image at (bytes w) b) (length_part image at (bytes w) h)
 
 -- bytes of a number are read as the number, and those of a value as the value
 pub bits-of : (o : ByteOrder) (w : Width) (image : List ℕ) (at u : ℕ) → u < 2 ^ bits w → part image at (length (numeral o (bytes w) u)) ≡ numeral o (bytes w) u → bits_at o w image at ≡ u

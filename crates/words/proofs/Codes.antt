@@ -33,14 +33,6 @@ same-equal (x ∷ xs) (y ∷ ys) e =
 pub differ-at : (i : ℕ) (xs ys : List ℕ) → (get_or xs i 0 ≡ get_or ys i 0 → ⊥) → same_numbers xs ys ≡ false
 differ-at i xs ys d = either (same_numbers xs ys) (λ q. absurd (d (ap (λ (l : List ℕ). get_or l i 0) (same-equal xs ys q)))) (λ q. q)
 
--- lists as long as each other that differ at no place are
-pub agree-everywhere : (xs ys : List ℕ) → length xs ≡ length ys → ((i : ℕ) → i < length xs → get_or xs i 0 ≡ get_or ys i 0) → same_numbers xs ys ≡ true
-unfolding same_numbers
-agree-everywhere [] [] l e = refl
-agree-everywhere [] (y ∷ ys) l e = absurd (omega arith)
-agree-everywhere (x ∷ xs) [] l e = absurd (omega arith)
-agree-everywhere (x ∷ xs) (y ∷ ys) l e = rw (eq-eqb x y (e 0 (omega arith)), agree-everywhere xs ys (omega arith) (λ i h. e (suc i) (omega arith)))
-
 -- behind a number that both begin with, the others count
 pub same_next : {x y : ℕ} (xs ys : List ℕ) → x ≡ y → same_numbers (x ∷ xs) (y ∷ ys) ≡ same_numbers xs ys
 unfolding same_numbers

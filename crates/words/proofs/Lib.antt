@@ -1,5 +1,6 @@
 -- The laws of `words` that later layers cite.
 pub mod Number
+pub mod StdBytes
 pub mod Signed
 pub mod Ranges
 pub mod Access

@@ -1,5 +1,5 @@
 -- Laws of bits that are kept of one word after the other: when they are 0, and a turn of a loop that keeps them. Assumes nothing.
-use Prim.Native.Nat.{ℕ, ◌+◌, ◌-◌, ◌≤◌}
+use Prim.Native.Nat.{ℕ, ◌+◌, ◌*◌, ◌-◌, ◌≤◌}
 use mathlib.Core.Path.{◌≡◌, sym, ap, ap₂, ◌∙◌}
 use mathlib.Core.Bool.{◌&&◌}
 use mathlib.Core.List.{List}
@@ -22,15 +22,16 @@ or-zero a b =
     both_zero a b (bit_or a b) (λ p q. rw (p, q)) (λ z. (omega (arith, sum, second), omega (arith, sum, first)))
 
 -- a turn of a loop that keeps the bits of the words from an offset on
-pub seen_next : (image : List ℕ) (from done seen : ℕ) {word : ℕ} → word ≡ little_number (part image (from + done) 4) → eqb seen 0 ≡ all_zero (part image from done)
-    → eqb (bit_or seen word) 0 ≡ all_zero (part image from (done + 4))
+pub seen_next : (image : List ℕ) (from done seen : ℕ) {word : ℕ} → word ≡ little_number (part image (from + 4 * done) 4) → eqb seen 0 ≡ all_zero (part image from (4 * done))
+    → eqb (bit_or seen word) 0 ≡ all_zero (part image from (4 * (done + 1)))
 seen_next image from done seen {word} read e =
-    let before = part image from done in
-    let here = part image (from + done) 4 in
+    let before = part image from (4 * done) in
+    let here = part image (from + 4 * done) 4 in
+    let next : 4 * done + 4 ≡ 4 * (done + 1) = omega arith in
     or-zero seen word
     ∙ ap₂ ◌&&◌ e (ap (λ (n : ℕ). eqb n 0) read ∙ little-zero here)
     ∙ sym (zero-append before here)
-    ∙ ap all_zero (sym (part-add image from done 4))
+    ∙ ap all_zero (sym (part-add image from (4 * done) 4) ∙ ap (part image from) next)
 
 -- bytes are all zero where their first half and their second are, which may share bytes in the middle
 pub halves-zero : (image : List ℕ) (from n half second : ℕ) → half ≤ n → n ≤ half + half → second ≡ from + (n - half)

@@ -7,16 +7,12 @@
 
 mod byte_order;
 mod code;
+mod integers;
 mod range;
-mod read;
-mod sign;
-mod write;
 mod zero;
 
 pub use byte_order::ByteOrder;
 pub use code::code_at;
-pub use range::{at_least4, at_least8, within4};
-pub use read::{i32_at, i64_at, u32_at, u64_at};
-pub use sign::{bits32, bits64, signed32, signed64};
-pub use write::{put_i32, put_i64, put_u32, put_u64};
+pub use integers::{Integer, read, write};
+pub use range::{at_least, within};
 pub use zero::all_zero;
