@@ -52,6 +52,11 @@ module _ (file : List ℕ) where
   unfolding file_refusal setting_refusal filling_refusal
   file-rest h = rw (h, ← (refusal-append filling leftovers (omega arith))) (refusal-append settings (filling ++ leftovers) (omega arith))
 
+  -- a file that is too short counts for rule 1 alone
+  pub file-short : leb 64 (length file) ≡ false → file_refusal file ≡ 1
+  unfolding file_refusal
+  file-short h = rw h
+
   -- what a file with no refusal shows: it passed them all
   pub record FilePassed : Type 0 where
     pub long : 64 ≤ length file

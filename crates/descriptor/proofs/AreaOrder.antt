@@ -4,11 +4,11 @@ use Prim.Native.Nat.{ℕ, zero, suc, ◌+◌, ◌*◌, ◌-◌, ◌^◌, ◌≤�
 use mathlib.Core.Path.{◌≡◌, refl, ap, ◌∙◌}
 use mathlib.Core.Bool.{Bool, true, false, cond, ◌&&◌}
 use mathlib.Core.List.{List}
+use Rattle.std.specs.Prelude.{Some, None, IfSome}
 use native.Mathlib.Omega.{arith}
 use native.Mathlib.Nat.{mul-le-mul, mul-le-mul_left, mul-le-mul_right}
 use native.Mathlib.Numerals.{add-one}
-use borrow.Author.Tests.{leb-true, ne_eqb}
-use lib.Dec.{eqb}
+use borrow.Author.Tests.{leb-true}
 use mir.Syntax.{w64}
 use Rattle.outcome.proofs.Either.{either}
 use Rattle.words.specs.Word.{signed_of}
@@ -32,6 +32,9 @@ use Rattle.descriptor.specs.Bounds.{Settled, Admitted}
 pub records-small : (capacity lind reclen : ℕ) → 1 ≤ reclen → capacity ≤ 16384 → lind ≤ 256 → area_records capacity lind reclen ≤ 2 ^ 22
 records-small capacity lind reclen h c l =
     omega (arith, records-least (capacity * lind) reclen (capacity * lind) h (omega (arith, mul-le-mul_left (capacity * lind) h)), mul-le-mul c l)
+
+-- where the areas start within a signed number, one more ends within 64 bits
+pub ruleset records_few = (records-small, at_least-bounds)
 
 -- the table of a file's addresses has at each place what the file has
 pub aex-stored : (file : List ℕ) (nex i : ℕ) → i < nex → nex ≤ 16 → aex_of (addresses_of file nex) (i + 1) ≡ aex_at file i
@@ -85,25 +88,25 @@ module _ (d : DescriptorNumbers) (addresses : List RecordNumber) where
       rw q (omega (arith, after_next k, (area-low k n h e).0, after-low k n (omega arith) e))
 
   -- the record after no area in order
-  pub ordered-none : ordered_after d addresses 0 ≡ record { 0 = 2 }
+  pub ordered-none : ordered_after d addresses 0 ≡ Some (record { 0 = 2 })
   unfolding ordered_after areas_start
-  ordered-none = record-none
+  ordered-none = ap Some record-none
 
-  -- after areas in order it is the record after the last, and no record otherwise
-  pub ordered-is : (k : ℕ) (b : Bool) → areas_start d addresses k ≡ b → ordered_after d addresses k ≡ cond b (area_after d addresses k) (record { 0 = 0 })
+  -- after areas in order it is the record after the last, and there is none otherwise
+  pub ordered-is : (k : ℕ) (b : Bool) → areas_start d addresses k ≡ b → ordered_after d addresses k ≡ cond b (Some (area_after d addresses k)) None
   unfolding ordered_after
-  ordered-is k b e = ap (λ (t : Bool). cond t (area_after d addresses k) (record { 0 = 0 })) e
+  ordered-is k b e = ap (λ (t : Bool). cond t (Some (area_after d addresses k)) None) e
 
-  -- areas in order end at some record
-  pub ordered-some : (k : ℕ) → areas_start d addresses k ≡ true → eqb (area_after d addresses k).0 0 ≡ false
-  ordered-some k e = ne_eqb (area_after d addresses k).0 0 (λ (z : (area_after d addresses k).0 ≡ 0). omega (arith, after-low k k (omega arith) e))
+  -- it is no record 0
+  pub ordered-low : (k : ℕ) → IfSome (ordered_after d addresses k) (λ r. 1 ≤ r.0)
+  ordered-low k = either (areas_start d addresses k) (λ q. rw (ordered-is k true q) (omega (arith, after-low k k (omega arith) q))) (λ q. rw (ordered-is k false q) tt)
 
   -- one area more adds to it what the code adds
   pub ordered-next : (k : ℕ) → area_added d (ordered_after d addresses k) (aex_of addresses (k + 1)) (capacity_of (growth_in d) (k + 1)) ≡ ordered_after d addresses (k + 1)
   unfolding area_added
   ordered-next k = either (areas_start d addresses k) (λ q.
       let test = run-next starts-run k q in
-      rw (ordered-is k true q, ordered-some k q, ordered-is (k + 1) (area_starts k) test, record-next k))
+      rw (ordered-is k true q, ordered-is (k + 1) (area_starts k) test, record-next k))
       (λ q.
       let failed = starts-run.next k ∙ ap (λ (b : Bool). b && area_starts k) q in
       rw (ordered-is k false q, ordered-is (k + 1) false failed))
@@ -111,7 +114,7 @@ module _ (d : DescriptorNumbers) (addresses : List RecordNumber) where
   -- rule 11 by it is rule 11
   pub hold-is : areas_hold d (ordered_after d addresses d.nex) ≡ areas_start d addresses d.nex && areas_end d addresses
   unfolding areas_hold areas_end
-  hold-is = either (areas_start d addresses d.nex) (λ q. rw (ordered-is d.nex true q, ordered-some d.nex q, q)) (λ q. rw (ordered-is d.nex false q, q))
+  hold-is = either (areas_start d addresses d.nex) (λ q. rw (ordered-is d.nex true q, q)) (λ q. rw (ordered-is d.nex false q, q))
 
 -- the growth of settled numbers, as the code asks for it
 pub growing : (d : DescriptorNumbers) (k : ℕ) → Settled d → k ≤ d.nex → Growing (growth_in d) k

@@ -30,3 +30,6 @@ module _ (g : Growth) (n : ℕ) where
   -- and one extension fewer would not
   pub fit-full : (k : ℕ) → 1 ≤ k → entries_fit g k n ≡ true → total_of g (k - 1) < n
   fit-full k h e = ltb-true (total_of g (k - 1)) n ((and-eq-true_iff (leb n (total_of g k)) _).0 (rw (fit-some k h) at e)).1
+
+-- both, as the code tests them
+pub ruleset fits = (fit_none, fit-some)

@@ -7,3 +7,5 @@ pub mod AreaOrder
 pub mod Walks
 pub mod Fitting
 pub mod Admitting
+pub mod Reached
+pub mod Entered

@@ -24,7 +24,7 @@ use Rattle.descriptor.specs.Refusal.{row, refusal_in}
 use Rattle.descriptor.specs.FirstRecord.{mex_of, growth_in, free_of}
 use Rattle.descriptor.specs.Rules.{limit_rules, setting_rules, filling_rules, limit_refusal, setting_refusal, filling_refusal}
 use Rattle.descriptor.specs.Bounds.{Limited, Settled, Narrow, Lent, Free, Admitted}
-use Rattle.descriptor.proofs.Refusals.{all_hold, hold-split, refusal-none, refusal-append}
+use Rattle.descriptor.proofs.Refusals.{number_low, all_hold, hold-split, refusal-none, refusal-append}
 
 -- mex is 16 at most
 pub mex-high : (reclen : ℕ) → mex_of reclen ≤ 16
@@ -118,6 +118,9 @@ module _ (bytes : ℕ) (d : DescriptorNumbers) where
       let a = limit-rows e in
       let whole = eqb-true (bytes % (4 * d.reclen)) 0 a.whole in
       record { high = leb-true bytes (2 ^ 30) a.lent; whole = whole; first = one-record bytes (4 * d.reclen) whole h }
+
+-- how the settings are refused, by their limits and then by the capacities
+pub ruleset setting_parts = (setting-parts, number_low)
 
 -- a place that the rules admit: its record and its word
 pub place-low : (d : DescriptorNumbers) (r w : ℕ) → Settled d → at_least 2 (signed_of w64 r) ≡ true → within 1 d.reclen (signed_of w32 w) ≡ true → (2 ≤ r) × (1 ≤ w) × (w ≤ d.reclen)

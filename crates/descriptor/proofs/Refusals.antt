@@ -1,7 +1,9 @@
 -- What a table of rules means: a refusal is given exactly when a row of its number is broken and every row before it holds;
 -- and how a function that tests the rows in turn comes to it. Assumes nothing.
-use Prim.Native.Nat.{ℕ, zero, suc, ◌<◌}
-use mathlib.Core.Path.{◌≡◌, refl, sym}
+use native.Mathlib.Decide.{dec_le}
+use native.Mathlib.Nat.{lt_of_not-le}
+use Prim.Native.Nat.{ℕ, zero, suc, ◌<◌, ◌≤◌}
+use mathlib.Core.Path.{◌≡◌, refl, sym, ap, ◌∙◌}
 use mathlib.Core.Logic.{inl, inr}
 use mathlib.Core.Bool.{Bool, true, false, cond}
 use mathlib.Core.List.{List, [], ◌∷◌, ◌++◌}
@@ -9,7 +11,30 @@ use native.Mathlib.Omega.{arith}
 use borrow.Author.Tests.{ne_eqb}
 use lib.Dec.{eqb}
 use lib.ListN.{take}
+use Rattle.outcome.specs.declared.refusal.Refusal.{Refusal}
+use Rattle.std.specs.Prelude.{Result, Ok, Err, IsErrAnd}
+use Rattle.outcome.specs.Refusal.{number_of, row_refusal, Refuses}
+use Rattle.outcome.proofs.Refusals.{number-positive}
 use Rattle.descriptor.specs.Refusal.{Rule, refusal_in, Given, AllHold, Numbered}
+
+-- a refusal has a number of the list
+pub number_low : (r : Refusal) → 1 ≤ number_of r
+number_low r = elim (dec_le 1 (number_of r)) [ yes l ↦ l | no l ↦ absurd (number-positive r (omega (arith, lt_of_not-le l))) ]
+
+-- a row that is passed holds
+pub row-holds : (b : Bool) (n : ℕ) → 1 ≤ n → 0 ≡ row_refusal n b → b ≡ true
+row-holds true n h e = refl
+row-holds false n h e = absurd (omega arith)
+
+-- a row that refuses is broken, and gives its number
+pub row-broken : (b : Bool) (n : ℕ) (r : Refusal) → number_of r ≡ row_refusal n b → (b ≡ false) × (number_of r ≡ n)
+row-broken true n r e = absurd (number-positive r e)
+row-broken false n r e = (refl, e)
+
+-- a refusal that is passed on keeps its number
+pub passed-on : {n : ℕ} (r : Refusal) (answer : Result Unit Refusal) → IsErrAnd answer (λ s. s ≡ r) → number_of r ≡ n → Refuses n answer
+passed-on r (Ok x) p e = absurd p
+passed-on r (Err s) p e = ap number_of p ∙ e
 
 -- a refusal that is given is the answer
 pub refusal_is : (k : ℕ) (rs : List Rule) → Given k rs → refusal_in rs ≡ k

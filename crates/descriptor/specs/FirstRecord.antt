@@ -1,5 +1,6 @@
 -- The first record (01, "First record"; the memo's Table 1): its fields as stored.
 use Rattle.std.specs.Prelude.{ℕ, ◌-◌, ◌/◌, min, List, get_or}
+use Rattle.std.specs.Int.{Width}
 use Rattle.words.specs.Word.{integer4, integer8, bits_at, bits_of}
 use Rattle.words.specs.Table.{places}
 use Rattle.geometry.specs.declared.units.RecordNumber.{RecordNumber}
@@ -12,13 +13,17 @@ use Rattle.descriptor.specs.declared.numbers.DescriptorNumbers.{DescriptorNumber
 use Rattle.layout.specs.FileCode.{byte_order_of}
 use Rattle.layout.specs.FirstRecordWords.{reclen_word, kind_word, vind_word, lind_word, flags_word, xnext_word, nextrec_word, nextword_word, lex1_word, nex_word, gex_word, aex_word}
 
--- the bits of the Integer*4 at a word, in the file's order
-unfoldable pub field4 : List ℕ → WordNumber → ℕ
-field4 file w = bits_at (byte_order_of file) integer4 file (first_record_offset_of w)
+-- the bits of the integer of a width at a word and those behind it, in the file's order
+unfoldable pub field : Width → List ℕ → WordNumber → ℕ
+field width file w = bits_at (byte_order_of file) width file (first_record_offset_of w)
+
+-- of the Integer*4 at a word
+abbrev pub field4 : List ℕ → WordNumber → ℕ
+field4 file w = field integer4 file w
 
 -- and of the Integer*8 at a word and the next
-unfoldable pub field8 : List ℕ → WordNumber → ℕ
-field8 file w = bits_at (byte_order_of file) integer8 file (first_record_offset_of w)
+abbrev pub field8 : List ℕ → WordNumber → ℕ
+field8 file w = field integer8 file w
 
 -- the order that the code says, and the numbers, as bits; the rules say what their signed readings may be
 unfoldable pub numbers_of : List ℕ → DescriptorNumbers

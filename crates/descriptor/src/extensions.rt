@@ -5,10 +5,12 @@ ghost use Rattle.descriptor.specs.Answers.{extension_of, no_extension};
 use super::inner::{admit, aex_in};
 use super::validating::{Validated, refusal_of};
 use geometry::{ExtensionNumber, RecordNumber, area_records, total_before};
+use outcome::Refusal;
 
 // The answer of `extension_of`: the refusal, 0 when there is such an extension; how many entries it
-// holds; and its index area, by its first record and its count of records.
-#[derive(Clone, Copy)]
+// holds; and its index area, by its first record and its count of records. The refusal is its number in the list, so that
+// callers in C and in Rust read one and the same.
+#[derive(Clone, Copy, Default)]
 pub struct Extension {
     pub refusal: u32,
     pub capacity: u64,
@@ -22,9 +24,7 @@ fn refused(refusal: u32) -> Extension
 {
     Extension {
         refusal,
-        capacity: 0,
-        first: RecordNumber(0),
-        records: 0,
+        ..Extension::default()
     }
 }
 
@@ -38,10 +38,10 @@ pub fn extension_of(file: &[u8], number: ExtensionNumber) -> Extension
         return refused(refusal_of(case));
     };
     if number.0 < 1 {
-        return refused(12);
+        return refused(Refusal::Number.number());
     }
     if d.nex < number.0 {
-        return refused(12);
+        return refused(Refusal::Number.number());
     }
     let before = total_before(&totals, number);
     let capacity = total_before(&totals, ExtensionNumber(number.0 + 1)) - before;

@@ -5,7 +5,7 @@ ghost use Rattle.descriptor.specs.FirstRecord.{created_of};
 use geometry::{EntryNumber, RecordNumber, WordNumber};
 use words::ByteOrder;
 
-// What a caller chooses for a new file.
+// What a caller chooses for a new file. They are integers and no enums, since C may hand in any, and the rules test them.
 #[derive(Clone, Copy)]
 pub struct Settings {
     pub order: i32,
@@ -19,9 +19,10 @@ pub struct Settings {
 }
 
 // The order that the code of a first record says, and its fields but the addresses: as stored while they
-// are tested, and within their limits once they are validated.
+// are tested, and within their limits once they are validated. They are numbers and no enums, since a file, or a record that C
+// hands in, may hold any.
 #[repr(C)]
-#[derive(Clone, Copy)]
+#[derive(Clone, Copy, Default, PartialEq, Eq)]
 pub struct DescriptorNumbers {
     pub order: ByteOrder,
     pub reclen: u64,
@@ -49,22 +50,23 @@ impl DescriptorNumbers {
     pub const BYTES_MAX: u64 = 1073741824;
 
     // The numbers of a new file with these settings.
+    #[tactic(auto, unfolding(crate::specs::FirstRecord::created_of))]
     pub fn new(settings: Settings) -> DescriptorNumbers
         ensures { Answers (created_of settings) result }
     {
         DescriptorNumbers {
-            order: ByteOrder(words::bits32(settings.order) as u64),
-            reclen: words::bits32(settings.reclen) as u64,
-            kind: words::bits32(settings.kind) as u64,
-            vind: words::bits32(settings.vind) as u64,
-            lind: words::bits32(settings.lind) as u64,
-            flags: words::bits32(settings.flags) as u64,
+            order: ByteOrder(settings.order.cast_unsigned() as u64),
+            reclen: settings.reclen.cast_unsigned() as u64,
+            kind: settings.kind.cast_unsigned() as u64,
+            vind: settings.vind.cast_unsigned() as u64,
+            lind: settings.lind.cast_unsigned() as u64,
+            flags: settings.flags.cast_unsigned() as u64,
             xnext: EntryNumber(1),
             nextrec: RecordNumber(2),
             nextword: WordNumber(1),
-            lex1: words::bits32(settings.lex1) as u64,
+            lex1: settings.lex1.cast_unsigned() as u64,
             nex: 0,
-            gex: words::bits32(settings.gex) as u64,
+            gex: settings.gex.cast_unsigned() as u64,
         }
     }
 }

@@ -1,4 +1,5 @@
 // Validating a file's descriptor.
+ghost use Rattle.std.specs.Prelude.{◌≡◌};
 ghost use Rattle.outcome.specs.Outcome.{Answers};
 ghost use Rattle.descriptor.specs.Answers.{validation_of, no_validation, no_numbers, validated_case};
 
@@ -6,10 +7,10 @@ use super::inner::addresses_of;
 use super::inner::admitting::file_refusal;
 use super::inner::reading::numbers_of;
 use super::numbers::DescriptorNumbers;
-use geometry::{EntryNumber, RecordNumber, WordNumber};
-use words::ByteOrder;
+use geometry::RecordNumber;
 
-// The case of a validation: the numbers of an admitted file, or the refusal.
+// The case of a validation: the numbers of an admitted file, or the refusal. It is no Result, since a caller takes the numbers
+// out by `let .. else`, and what is left is the number that its own answer has.
 #[derive(Clone, Copy)]
 pub enum Validated {
     Numbers(DescriptorNumbers),
@@ -17,7 +18,8 @@ pub enum Validated {
 }
 
 // The answer of `validate`: the refusal, 0 when the descriptor is admitted; the case; and the
-// addresses of the extensions in use, the other places zero.
+// addresses of the extensions in use, the other places zero. The refusal is its number in the list, so that callers in C and in
+// Rust read one and the same. The library has no heap, so the table has a place for each extension that a file may have.
 #[derive(Clone, Copy)]
 pub struct Validation {
     pub refusal: u32,
@@ -25,14 +27,32 @@ pub struct Validation {
     pub addresses: [RecordNumber; 16],
 }
 
-// What a case says: 01's number, 0 for numbers, and 01's values, zeros for a refusal.
+// What a case says: 01's number, 0 for numbers, and 01's values, zeros for a refusal. C has no enum with values in it, so here
+// the refusal is a number beside them.
 #[derive(Clone, Copy)]
 pub struct ValidatedCase {
     pub refusal: u32,
     pub numbers: DescriptorNumbers,
 }
 
-// A validation with a refusal.
+impl From<Validated> for ValidatedCase {
+    ghost from_gives = { λ case answer. answer ≡ validated_case case };
+
+    fn from(case: Validated) -> ValidatedCase {
+        match case {
+            Validated::Numbers(numbers) => ValidatedCase {
+                refusal: 0,
+                numbers,
+            },
+            Validated::Refused(refusal) => ValidatedCase {
+                refusal,
+                numbers: no_numbers(),
+            },
+        }
+    }
+}
+
+// A validation with a refusal. The case has no zero value, so that there is no Default to take the rest from.
 fn no_validation(refusal: u32) -> Validation
     ensures { Answers (no_validation refusal) result }
 {
@@ -48,16 +68,16 @@ pub fn validate(file: &[u8]) -> Validation
     ensures { Answers (validation_of file.now) result }
 {
     let mut totals = [0u64; 16];
-    let refusal = file_refusal(file, &mut totals);
-    if refusal != 0 {
-        return no_validation(refusal);
-    }
-    let d = numbers_of(file);
-    let addresses = addresses_of(d.order, file, d.nex);
-    Validation {
-        refusal: 0,
-        numbers: Validated::Numbers(d),
-        addresses,
+    match file_refusal(file, &mut totals) {
+        Ok(()) => {
+            let d = numbers_of(file);
+            Validation {
+                refusal: 0,
+                numbers: Validated::Numbers(d),
+                addresses: addresses_of(d.order, file, d.nex),
+            }
+        }
+        Err(refusal) => no_validation(refusal.number()),
     }
 }
 
@@ -65,36 +85,14 @@ pub fn validate(file: &[u8]) -> Validation
 pub fn no_numbers() -> DescriptorNumbers
     ensures { Answers no_numbers result }
 {
-    DescriptorNumbers {
-        order: ByteOrder(0),
-        reclen: 0,
-        kind: 0,
-        vind: 0,
-        lind: 0,
-        flags: 0,
-        xnext: EntryNumber(0),
-        nextrec: RecordNumber(0),
-        nextword: WordNumber(0),
-        lex1: 0,
-        nex: 0,
-        gex: 0,
-    }
+    DescriptorNumbers::default()
 }
 
 // The number and the values of a case.
 pub fn validated_case(case: Validated) -> ValidatedCase
     ensures { Answers (validated_case case) result }
 {
-    match case {
-        Validated::Numbers(numbers) => ValidatedCase {
-            refusal: 0,
-            numbers,
-        },
-        Validated::Refused(refusal) => ValidatedCase {
-            refusal,
-            numbers: no_numbers(),
-        },
-    }
+    ValidatedCase::from(case)
 }
 
 // The number of a case alone.

@@ -1,16 +1,26 @@
 -- What a walk counts in parts is what the single product gives, up to extension 16. Assumes nothing.
 use mathlib.Core.Path.{◌≡◌, refl, sym, ap, ap₂, ◌∙◌}
-use Prim.Native.Nat.{ℕ, zero, suc, ◌+◌, ◌*◌, ◌-◌, ◌/◌, ◌^◌, ◌≤◌, ◌<◌}
+use mathlib.Core.Bool.{false}
+use Prim.Native.Nat.{ℕ, zero, suc, ◌+◌, ◌*◌, ◌-◌, ◌/◌, ◌%◌, ◌^◌, ◌≤◌, ◌<◌}
 use native.Mathlib.Omega.{arith}
 use native.Mathlib.Decide.{dec_le}
 use native.Mathlib.Numerals.{add-one}
-use native.Mathlib.Nat.{mul_assoc, mul_right_comm, mul-one, pow-zero, pow-suc, one-le-pow, mul-div_cancel, mul-div-mul_right, div-div-eq-div-mul, div-lt_iff_lt-mul, lt_of_not-le}
+use native.Mathlib.Nat.{add-mul, mul-add-div_right, div-add-mod', mul_assoc, mul_right_comm, mul-one, pow-zero, pow-suc, one-le-pow, mul-div_cancel, mul-div-mul_right, div-div-eq-div-mul, div-lt_iff_lt-mul, lt_of_not-le}
+use lib.Dec.{ltb}
 use lib.Pow.{pow-add}
 use Rattle.geometry.specs.declared.growth.Growth.{Growth}
 use Rattle.geometry.specs.declared.walk.Walk.{Walk}
-use Rattle.geometry.specs.Growth.{capacity_of, total_of}
-use Rattle.geometry.specs.Walk.{grown_of, parts_of, walk_of}
-use Rattle.geometry.proofs.Capacities.{product-next, total-last}
+use Rattle.geometry.specs.Growth.{capacity_of, total_of, over_of, Growing}
+use Rattle.geometry.specs.Walk.{grown_of, parts_of, walk_of, Walking}
+use Rattle.geometry.proofs.Capacities.{product-next, total-last, over-next}
+
+-- a number times x, divided by 10, by its tens and its last digit
+pub by_digits : (n x : ℕ) → n / 10 * x + n % 10 * x / 10 ≡ n * x / 10
+by_digits n x =
+    sym (mul-add-div_right {m = 10} (omega arith) (n / 10 * x) (n % 10 * x))
+    ∙ ap (λ (m : ℕ). (m + n % 10 * x) / 10) (mul_right_comm (n / 10) x 10)
+    ∙ ap (λ (m : ℕ). m / 10) (sym (add-mul (n / 10 * 10) (n % 10) x))
+    ∙ ap (λ (m : ℕ). m * x / 10) (div-add-mod' n 10)
 
 module _ (g : Growth) where
   -- of fourteen tens, k are used up by extension k + 1, and j are left: its parts are whole
@@ -64,3 +74,17 @@ module _ (g : Growth) where
   -- and together with those before it, the total
   pub walk-total : {w : Walk} (k : ℕ) → 1 ≤ k → k ≤ 16 → w ≡ walk_of g k → w.before + w.capacity ≡ total_of g k
   walk-total k l h e = omega (arith, ap (λ (x : Walk). x.before) e, walk-capacity k h e, total-last g k l)
+
+  -- with those before it within the limit, its extension is over it by the walk's own capacity
+  pub walk-over : {w : Walk} (k : ℕ) → k + 1 ≤ 16 → w ≡ walk_of g (k + 1) → over_of g k ≡ false → over_of g (k + 1) ≡ ltb 16384 w.capacity
+  walk-over k h e none = over-next g k none ∙ ap (ltb 16384) (sym (walk-capacity (k + 1) h e))
+
+  -- a walk at an extension may go on where those up to it are within the limit
+  pub walking : {w : Walk} (k : ℕ) → 1 ≤ k → k ≤ 16 → Growing g k → w ≡ walk_of g k → Walking g w
+  walking k l h p e =
+      let s = walk-stands e in
+      record { stands = s.1; counted = rw s.0 l; few = rw s.0 h; growing = rw s.0 p }
+
+  -- and then it comes to the next
+  pub walked-on : {v w : Walk} (k : ℕ) → w ≡ walk_of g k → v ≡ walk_of g (w.extension.0 + 1) → v ≡ walk_of g (k + 1)
+  walked-on k e n = rw (walk-stands e).0 at n

@@ -1,12 +1,14 @@
 -- Laws of records and slots: an area is just large enough, and the slots of different entries are apart and within it. Assumes nothing.
 use mathlib.Core.Path.{◌≡◌, refl, sym, ap}
-use Prim.Native.Nat.{ℕ, zero, suc, ◌+◌, ◌*◌, ◌-◌, ◌≤◌, ◌<◌}
+use Prim.Native.Nat.{ℕ, zero, suc, ◌+◌, ◌*◌, ◌-◌, ◌/◌, ◌%◌, ◌≤◌, ◌<◌}
 use native.Mathlib.Omega.{arith}
-use native.Mathlib.Nat.{div-add-mod', mod-lt, mul-le-mul_right, div-lt_iff_lt-mul, lt_of_not-le}
+use native.Mathlib.Nat.{add-mul, div-eq_of_lt-le, div-add-mod', mod-lt, mul-le-mul_right, div-lt_iff_lt-mul, lt_of_not-le}
 use native.Mathlib.Decide.{dec_le, le_ind}
 use native.Mathlib.Numerals.{add-one}
 use borrow.Author.Tests.{leb-true, leb-false, lt-leb}
 use lib.Dec.{leb}
+use Rattle.std.proofs.Common.{min}
+use Rattle.std.proofs.lemmas.Grind.{div_ceil_times}
 use Rattle.outcome.proofs.Either.{either}
 use Rattle.geometry.specs.declared.growth.Growth.{Growth}
 use Rattle.geometry.specs.declared.units.EntryNumber.{EntryNumber}
@@ -16,6 +18,13 @@ use Rattle.geometry.specs.Area.{records_for, extension_for, slot_at, slot_of}
 use Rattle.geometry.proofs.Capacities.{total-le, total-last, total-none, total-before}
 
 -- ---- records
+
+-- a quotient rounded up, by the quotient and the remainder
+pub rounded_up : (words reclen : ℕ) → 1 ≤ reclen → (words + (reclen - 1)) / reclen ≡ words / reclen + min 1 (words % reclen)
+rounded_up words reclen h =
+    let n = words / reclen + min 1 (words % reclen) in
+    let b = div_ceil_times words reclen h in
+    div-eq_of_lt-le reclen (omega (arith, b)) (omega (arith, b, add-mul n 1 reclen))
 
 -- the records hold the words
 pub records-hold : (words reclen : ℕ) → 1 ≤ reclen → words ≤ records_for words reclen * reclen

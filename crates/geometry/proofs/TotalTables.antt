@@ -29,6 +29,8 @@ before-other totals zero h = absurd (omega arith)
 before-other totals (suc zero) h = absurd (omega arith)
 before-other totals (suc (suc k)) h = let q : k ≡ suc (suc k) - 1 - 1 = omega arith in ap (λ (i : ℕ). get_or totals i 0) q
 
+pub ruleset before_extension = (before-first, before-other)
+
 module _ (g : Growth) (nex : ℕ) {totals : List ℕ} (e : totals ≡ totals_of g nex) where
   -- a table of totals has 16 places
   pub totals-length : length totals ≡ 16

@@ -14,7 +14,9 @@ pub struct Slot {
     pub offset: u64,
 }
 
-// How many whole records hold a count of words.
+// How many whole records hold a count of words. The quotient of `div_ceil` is followed by a test of the remainder, which costs a
+// walk over sixteen extensions a tenth of its time.
+#[tactic(auto, using(crate::proofs::Slots::rounded_up), unfolding(crate::specs::Area::records_for))]
 pub fn records_for(words: u64, reclen: u64) -> u64
     requires { (1 ≤ reclen) × (words + reclen < 2 ^ 64) }
     ensures { Answers (records_for words reclen) result }

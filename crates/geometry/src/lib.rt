@@ -19,4 +19,4 @@ pub use units::{
     entries_before, entry_address, entry_position, first_record_offset, place_at, position,
     position_within, table_index,
 };
-pub use walk::{Walk, capacity, over, walk_begun, walk_on, walk_to};
+pub use walk::{Walk, capacity, over};

@@ -5,35 +5,36 @@ ghost use Rattle.geometry.specs.Units.{position_of, place_of, entry_position_of,
 
 // A record of the file.
 #[repr(C)]
-#[derive(Clone, Copy)]
+#[derive(Clone, Copy, Default, PartialEq, Eq)]
 pub struct RecordNumber(pub u64);
 
 // A word of a record.
 #[repr(C)]
-#[derive(Clone, Copy)]
+#[derive(Clone, Copy, Default, PartialEq, Eq)]
 pub struct WordNumber(pub u64);
 
 // An entry of the file.
 #[repr(C)]
-#[derive(Clone, Copy)]
+#[derive(Clone, Copy, Default, PartialEq, Eq)]
 pub struct EntryNumber(pub u64);
 
 // An extension of the file.
-#[derive(Clone, Copy)]
+#[derive(Clone, Copy, Default, PartialEq, Eq)]
 pub struct ExtensionNumber(pub u64);
 
 // A word of an entry.
-#[derive(Clone, Copy)]
+#[derive(Clone, Copy, Default)]
 pub struct EntryAddress(pub u64);
 
 // A word of the file, by its record and its word there.
-#[derive(Clone, Copy)]
+#[derive(Clone, Copy, Default)]
 pub struct Place {
     pub record: RecordNumber,
     pub word: WordNumber,
 }
 
 // The position of a record's word.
+#[tactic(auto, unfolding(crate::specs::Units::position_of))]
 pub fn position(reclen: u64, record: RecordNumber, word: WordNumber) -> u64
     requires { (1 ≤ «record».0) × («record».0 ≤ 2 ^ 32) × (1 ≤ word.0) × (word.0 ≤ 2 ^ 32) × (reclen ≤ 4096) }
     ensures { Answers (position_of reclen «record» word) result }
@@ -42,6 +43,7 @@ pub fn position(reclen: u64, record: RecordNumber, word: WordNumber) -> u64
 }
 
 // Whether the position of a record's word is at most `limit`, however large the record's number is.
+#[tactic(auto, using(crate::proofs::Positions::past_limit))]
 pub fn position_within(reclen: u64, record: RecordNumber, word: WordNumber, limit: u64) -> bool
     requires { (1 ≤ reclen) × (reclen ≤ 4096) × (1 ≤ «record».0) × (1 ≤ word.0) × (word.0 ≤ 2 ^ 32) × (limit < 2 ^ 32) }
     ensures { Answers (leb (position_of reclen «record» word) limit) result }
@@ -53,6 +55,7 @@ pub fn position_within(reclen: u64, record: RecordNumber, word: WordNumber, limi
 }
 
 // The record and word at a position.
+#[tactic(auto, unfolding(crate::specs::Units::place_of))]
 pub fn place_at(reclen: u64, position: u64) -> Place
     requires { (1 ≤ reclen) × (position < 2 ^ 63) }
     ensures { Answers (place_of reclen position) result }

@@ -22,10 +22,50 @@ pub struct Walk {
 
 impl Walk {
     pub const PARTS_OF_AN_ENTRY: u64 = 100_000_000_000_000;
+
+    // A walk at the first extension.
+    pub fn new(growth: Growth) -> Walk
+        requires { growth.lex1 ≤ 4096 }
+        ensures { Answers (walk_of growth 1) result }
+    {
+        Walk {
+            extension: ExtensionNumber(1),
+            before: 0,
+            capacity: growth.lex1,
+            parts: growth.lex1 * Walk::PARTS_OF_AN_ENTRY,
+        }
+    }
+
+    // The walk at the next extension. The one it has come to, and those before it, are within the limit.
+    pub fn next(self, growth: Growth) -> Walk
+        requires { Walking growth self }
+        ensures { Answers (walk_of growth (self.extension.0 + 1)) result }
+    {
+        let parts = grown(growth, self.parts);
+        Walk {
+            extension: ExtensionNumber(self.extension.0 + 1),
+            before: self.before + self.capacity,
+            capacity: parts / Walk::PARTS_OF_AN_ENTRY,
+            parts,
+        }
+    }
+
+    // The walk at an extension, by way of the one before it. Those before it are within the limit. A capacity is defined from
+    // the one before it, so this asks for that one by a call of itself, which ends at the first of 16.
+    pub fn to(growth: Growth, extension: ExtensionNumber) -> Walk
+        requires { (1 ≤ extension.0) × (extension.0 ≤ 16) × Growing growth (extension.0 - 1) }
+        ensures { Answers (walk_of growth extension.0) result }
+    {
+        if extension.0 <= 1 {
+            return Walk::new(growth);
+        }
+        Walk::to(growth, ExtensionNumber(extension.0 - 1)).next(growth)
+    }
 }
 
 // The parts that follow from parts: times gex, divided by 10, the tens and the last digit each for
 // itself, so that the product fits.
+#[tactic(auto, using(crate::proofs::Parts::by_digits))]
 fn grown(growth: Growth, parts: u64) -> u64
     requires { (growth.gex ≤ 20) × (parts < 2 ^ 61) }
     ensures { Answers (grown_of growth parts) result }
@@ -33,50 +73,12 @@ fn grown(growth: Growth, parts: u64) -> u64
     parts / 10 * growth.gex + parts % 10 * growth.gex / 10
 }
 
-// A walk at the first extension.
-pub fn walk_begun(growth: Growth) -> Walk
-    requires { growth.lex1 ≤ 4096 }
-    ensures { Answers (walk_of growth 1) result }
-{
-    Walk {
-        extension: ExtensionNumber(1),
-        before: 0,
-        capacity: growth.lex1,
-        parts: growth.lex1 * Walk::PARTS_OF_AN_ENTRY,
-    }
-}
-
-// The walk at the next extension. The one it has come to, and those before it, are within the limit.
-pub fn walk_on(growth: Growth, walk: Walk) -> Walk
-    requires { Walking growth walk }
-    ensures { Answers (walk_of growth (walk.extension.0 + 1)) result }
-{
-    let parts = grown(growth, walk.parts);
-    Walk {
-        extension: ExtensionNumber(walk.extension.0 + 1),
-        before: walk.before + walk.capacity,
-        capacity: parts / Walk::PARTS_OF_AN_ENTRY,
-        parts,
-    }
-}
-
-// The walk at an extension, by way of the one before it. Those before it are within the limit.
-pub fn walk_to(growth: Growth, extension: ExtensionNumber) -> Walk
-    requires { (1 ≤ extension.0) × (extension.0 ≤ 16) × Growing growth (extension.0 - 1) }
-    ensures { Answers (walk_of growth extension.0) result }
-{
-    if extension.0 <= 1 {
-        return walk_begun(growth);
-    }
-    walk_on(growth, walk_to(growth, ExtensionNumber(extension.0 - 1)))
-}
-
 // The capacity of an extension, worked out from the one before it. Those before it are within the limit.
 pub fn capacity(growth: Growth, extension: ExtensionNumber) -> u64
     requires { (1 ≤ extension.0) × (extension.0 ≤ 16) × Growing growth (extension.0 - 1) }
     ensures { Answers (capacity_of growth extension.0) result }
 {
-    walk_to(growth, extension).capacity
+    Walk::to(growth, extension).capacity
 }
 
 // Whether one of the first `count` capacities is over the limit.
@@ -84,12 +86,12 @@ pub fn over(growth: Growth, count: u64) -> bool
     requires { (growth.lex1 ≤ 4096) × (growth.gex ≤ 20) × (count ≤ 16) }
     ensures { Answers (over_of growth count) result }
 {
-    let mut walk = walk_begun(growth);
-    while walk.extension.0 <= count {
+    let mut walk = Walk::new(growth);
+    for _passed in 0..count {
         if Growth::CAPACITY_MAX < walk.capacity {
             return true;
         }
-        walk = walk_on(growth, walk);
+        walk = walk.next(growth);
     }
     false
 }

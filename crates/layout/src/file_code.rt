@@ -14,24 +14,25 @@ const LITTLE: [u8; 4] = [0x32, 0x41, 0x20, 0x20];
 const BIG: [u8; 4] = [0x32, 0x42, 0x20, 0x20];
 
 // The code of an order.
+#[tactic(auto, unfolding(crate::specs::FileCode::file_code))]
 pub fn file_code(order: ByteOrder) -> [u8; 4]
     ensures { Answers (file_code order) result }
 {
     if order.0 == 0 { LITTLE } else { BIG }
 }
 
-// The order that a file's code says, or 2 where it is none of the two codes.
+// The order that a file's code says, or 2 where it is none of the two codes. It is a number and no Option, since the numbers of a
+// file keep what the code says until rule 2 tests it.
+#[tactic(auto, unfolding(crate::specs::FileCode::order_said, crate::specs::FileCode::file_code_of))]
 pub fn byte_order_of(file: &[u8]) -> ByteOrder
     requires { 4 ≤ length file.now }
     ensures { Answers (byte_order_of file.now) result }
 {
     let at = first_record_offset(first_record::CODE);
-    let little = LITTLE;
-    if words::code_at(file, at, little[0], little[1], little[2], little[3]) {
+    if words::code_at(file, at, LITTLE) {
         return ByteOrder(0);
     }
-    let big = BIG;
-    if words::code_at(file, at, big[0], big[1], big[2], big[3]) {
+    if words::code_at(file, at, BIG) {
         return ByteOrder(1);
     }
     ByteOrder(2)

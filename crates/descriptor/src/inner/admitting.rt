@@ -1,6 +1,7 @@
 // Validating a file, with what the one walk over its extensions finds.
 ghost use Rattle.std.specs.Prelude.{◌≡◌, replicate};
-ghost use Rattle.outcome.specs.Outcome.{AnswersAndLeaves};
+ghost use Rattle.outcome.specs.Outcome.{Leaves, AnswersAndLeaves};
+ghost use Rattle.outcome.specs.Refusal.{Refuses};
 ghost use Rattle.descriptor.specs.Rules.{file_refusal};
 ghost use Rattle.descriptor.specs.Walking.{totals_in};
 ghost use Rattle.descriptor.specs.Answers.{case_of};
@@ -12,40 +13,26 @@ use crate::validating::Validated;
 use crate::walking::walk_extensions;
 use geometry::{byte_offset, first_record_offset};
 use layout::first_record::after_aex;
+use outcome::Refusal;
 
-// The first rule of 1 to 11 and 29 that the file breaks, or 0; and the totals of the extensions in use, in a
-// table that is zero before.
-pub(crate) fn file_refusal(file: &[u8], totals: &mut [u64]) -> u32
+// Rules 1 to 11 and 29, in this order; and the totals of the extensions in use, in a table that is zero before.
+pub(crate) fn file_refusal(file: &[u8], totals: &mut [u64]) -> Result<(), Refusal>
     requires { totals.old ≡ replicate 16 0 }
-    ensures { AnswersAndLeaves (file_refusal file.now) (totals_in file.now) result totals.new }
+    ensures refuses { Refuses (file_refusal file.now) result }
+    ensures leaves { Leaves (totals_in file.now) totals.new }
 {
     let bytes = file.len() as u64;
-    if bytes < 64 {
-        return 1;
-    }
+    Refusal::LentShort.unless(64 <= bytes)?;
     let d = numbers_of(file);
-    let limit = limit_refusal(bytes, d);
-    if limit != 0 {
-        return limit;
-    }
-    let walked = walk_extensions(file, d, totals);
-    if walked.over {
-        return 8;
-    }
-    let count = count_refusal(bytes, d, walked.before, walked.total);
-    if count != 0 {
-        return count;
-    }
-    let after = walked.after;
-    if !areas_hold(d, after) {
-        return 11;
-    }
+    limit_refusal(bytes, d)?;
+    let Some(walked) = walk_extensions(file, d, totals) else {
+        return Err(Refusal::Growth);
+    };
+    count_refusal(bytes, d, walked)?;
+    Refusal::IndexArea.unless(areas_hold(d, walked.after))?;
     let start = first_record_offset(after_aex(d.nex));
     let end = byte_offset(d.reclen);
-    if !words::all_zero(file, start, end) {
-        return 29;
-    }
-    0
+    Refusal::Leftovers.unless(words::all_zero(file, start, end))
 }
 
 // The numbers of an admitted file, or the refusal; and the totals, as `file_refusal` leaves them. The numbers are
@@ -54,9 +41,8 @@ pub fn admit(file: &[u8], totals: &mut [u64]) -> Validated
     requires { totals.old ≡ replicate 16 0 }
     ensures { AnswersAndLeaves (case_of file.now) (totals_in file.now) result totals.new }
 {
-    let refusal = file_refusal(file, totals);
-    if refusal != 0 {
-        return Validated::Refused(refusal);
+    match file_refusal(file, totals) {
+        Ok(()) => Validated::Numbers(numbers_of(file)),
+        Err(refusal) => Validated::Refused(refusal.number()),
     }
-    Validated::Numbers(numbers_of(file))
 }

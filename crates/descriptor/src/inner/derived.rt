@@ -8,16 +8,12 @@ use crate::numbers::DescriptorNumbers;
 use geometry::{Growth, position};
 
 // The most extensions that a first record has room for.
+#[tactic(auto, unfolding(crate::specs::FirstRecord::mex_of))]
 pub fn mex(reclen: u64) -> u64
     requires { 16 ≤ reclen }
     ensures { Answers (mex_of reclen) result }
 {
-    let room = (reclen - 14) / 2;
-    if room <= Growth::EXTENSIONS_MAX {
-        room
-    } else {
-        Growth::EXTENSIONS_MAX
-    }
+    ((reclen - 14) / 2).min(Growth::EXTENSIONS_MAX)
 }
 
 // The next free position.

@@ -7,22 +7,18 @@ ghost use Rattle.descriptor.specs.FirstRecord.{growth_in};
 ghost use Rattle.descriptor.specs.Bounds.{Settled, TotalsOf};
 
 use crate::numbers::DescriptorNumbers;
-use geometry::{EntryNumber, ExtensionNumber, Slot};
+use geometry::{EntryNumber, ExtensionNumber, Slot, total_before};
 
 // The slot of an entry, by the totals of the extensions in use.
 pub fn slot_in_use(d: DescriptorNumbers, totals: &[u64], entry: EntryNumber) -> Slot
     requires { Settled d × TotalsOf d totals.now × (1 ≤ entry.0) × (entry.0 ≤ total_of (growth_in d) d.nex) }
     ensures { Answers (slot_of (growth_in d) d.nex d.lind entry) result }
 {
-    let mut before = 0;
-    let mut passed = 0;
-    while totals[passed] < entry.0 {
-        before = totals[passed];
-        passed += 1;
-    }
-    let place = entry.0 - before;
+    let passed = totals.iter().position(|total| entry.0 <= *total).unwrap();
+    let extension = ExtensionNumber(passed as u64 + 1);
+    let place = entry.0 - total_before(totals, extension);
     Slot {
-        extension: ExtensionNumber(passed as u64 + 1),
+        extension,
         place,
         offset: (place - 1) * d.lind,
     }

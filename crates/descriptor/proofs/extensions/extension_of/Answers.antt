@@ -9,7 +9,7 @@ use Rattle.geometry.proofs.Capacities.{total-last, total-le}
 use Rattle.geometry.proofs.TotalTables.{totals-length, before-total}
 use Rattle.descriptor.specs.declared.validating.Validated.TheVariants.{Numbers}
 use Rattle.descriptor.specs.FirstRecord.{growth_in, addresses_of, aex_of, aex_at}
-use Rattle.descriptor.specs.Answers.{extension_in, extension_of}
+use Rattle.descriptor.specs.Answers.{no_extension, extension_in, extension_of}
 use Rattle.descriptor.proofs.Answered.{Admits, case-told, case-left}
 use Rattle.descriptor.proofs.AreaOrder.{aex-stored, area-asks}
 use Rattle.descriptor.proofs.extensions.extension_of.Goals as goal
@@ -33,13 +33,13 @@ pub returns-then-number-lt1 : goal.returns-then-number-lt1
 unfolding extension_in
 returns-then-number-lt1 c =
     let p = (goal.at.returns-then-number-lt1 c).In-Numbers in
-    c.refused-then-number-lt1.ensures ∙ sym (answer p ∙ rw (lt-leb 1 _ c.if-number-lt1.true))
+    c.refused-then-number-lt1.ensures ∙ ap no_extension c.number.ensures ∙ sym (answer p ∙ rw (lt-leb 1 _ c.if-number-lt1.true))
 
 pub returns-then-d-number : goal.returns-then-d-number
 unfolding extension_in
 returns-then-d-number c =
     let p = (goal.at.returns-then-d-number c).In-Numbers in
-    c.refused-then-d-number.ensures ∙ sym (answer p ∙ rw (le-leb 1 _ c.if-number-lt1.false, lt-leb _ c.in-Numbers.d.nex c.if-d-number.true))
+    c.refused-then-d-number.ensures ∙ ap no_extension c.number-then-d-number.ensures ∙ sym (answer p ∙ rw (le-leb 1 _ c.if-number-lt1.false, lt-leb _ c.in-Numbers.d.nex c.if-d-number.true))
 
 -- the extension is one of those in use
 used : (p : In-Numbers) → p.args.number.0 ≤ p.in-Numbers.d.nex → p.args.number.0 ≤ 16
