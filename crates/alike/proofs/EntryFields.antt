@@ -14,7 +14,7 @@ use Rattle.geometry.specs.declared.units.EntryAddress.{EntryAddress}
 use Rattle.layout.specs.FileCode.{byte_order_of}
 use Rattle.layout.specs.EntryWords.{adata_word, ldata_word, identifier_word, length_word, address_word, descriptor_words}
 use Rattle.pieces.specs.declared.contents.Piece.{Piece}
-use Rattle.pieces.specs.EntryDescriptor.{word_offset, word4, word8, entry_code_of, identifier_at, section_of, data_of}
+use Rattle.pieces.specs.EntryDescriptor.{word_of, word_offset, word4, word8, entry_code_of, identifier_at, section_of, data_of}
 use Rattle.pieces.specs.Contents.{sections_within, apart_from, sections_apart, data_apart}
 use Rattle.pieces.specs.Tables.{section_identifiers, section_lengths, section_addresses, sections_of, section_named}
 use Rattle.entry.specs.Opening.{content_rules}
@@ -33,12 +33,12 @@ module _ (f g : List ℕ) (order : byte_order_of f ≡ byte_order_of g) (start w
 
   -- its words
   pub word4-same : (a : EntryAddress) → 1 ≤ a.0 → a.0 ≤ words → word4 f start a ≡ word4 g start a
-  unfolding word4
+  unfolding word_of
   word4-same a l h = bits-alike integer4 f g (word_offset start a) (word_offset start a) order (within-entry (word_offset start a) 4 (omega arith) (omega arith))
 
   -- and so is an Integer*8
   pub word8-same : (a : EntryAddress) → 1 ≤ a.0 → a.0 + 1 ≤ words → word8 f start a ≡ word8 g start a
-  unfolding word8
+  unfolding word_of
   word8-same a l h = bits-alike integer8 f g (word_offset start a) (word_offset start a) order (within-entry (word_offset start a) 8 (omega arith) (omega arith))
 
   -- its code

@@ -19,7 +19,7 @@ use Rattle.geometry.specs.Units.{offset_of, first_record_offset_of}
 use Rattle.layout.specs.FirstRecordWords.{aex_word, after_aex}
 use Rattle.layout.specs.FileCode.{byte_order_of}
 use Rattle.layout.proofs.FileCodes.{order_alike}
-use Rattle.descriptor.specs.FirstRecord.{field4, field8, numbers_of, aex_at, addresses_of}
+use Rattle.descriptor.specs.FirstRecord.{field, field4, field8, numbers_of, aex_at, addresses_of}
 use Rattle.descriptor.specs.Rules.{no_leftovers, file_refusal}
 use Rattle.descriptor.specs.Answers.{validation_of}
 use Rattle.descriptor.specs.Bounds.{Admitted}
@@ -42,11 +42,11 @@ module _ (f g : List ℕ) (z : file_refusal f ≡ 0) (first : part g 0 (4 * (num
 
   -- a field in the first 16 words, and one within the record
   field4-alike : (w : WordNumber) → ltb (w.0 - 1) 16 ≡ true → field4 g w ≡ field4 f w
-  unfolding field4
+  unfolding field
   field4-alike w h = bits-alike integer4 g f (4 * (w.0 - 1)) (4 * (w.0 - 1)) order (bytes-alike (4 * (w.0 - 1)) 4 (omega (arith, ltb-true, admits.settled.reclen-low)))
 
   field8-alike : (w : WordNumber) → w.0 - 1 + 1 < d.reclen → field8 g w ≡ field8 f w
-  unfolding field8
+  unfolding field
   field8-alike w h = bits-alike integer8 g f (4 * (w.0 - 1)) (4 * (w.0 - 1)) order (bytes-alike (4 * (w.0 - 1)) 8 (omega arith))
 
   head8-alike : (w : WordNumber) → ltb (w.0 - 1) 15 ≡ true → field8 g w ≡ field8 f w

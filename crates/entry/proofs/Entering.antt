@@ -33,7 +33,12 @@ use Rattle.layout.specs.EntryWords.{entry_code}
 use Rattle.pieces.specs.EntryDescriptor.{entry_code_of, nsec_of, nword_of, xnum_of, data_of}
 use Rattle.pieces.specs.Contents.{data_within, sections_within, sections_apart, data_apart}
 use Rattle.pieces.specs.Bounds.{Described}
-use Rattle.entry.specs.Opening.{slot_position_of, place_stored, start_of, number_rules, start_rules, head_rules, content_rules, start_refusal, head_refusal, content_refusal, entry_rules, entry_refusal, not_entered, entered_at, entered_of}
+use Rattle.entry.specs.Opening.{slot_position_of, place_stored, start_of, number_rules, start_rules, head_rules, content_rules, start_refusal, head_refusal, content_refusal, entry_rules, entry_refusal, not_entered, entered_at, numbers_of, entered_of}
+use Rattle.entry.specs.declared.entered.Entered.{Entered as Numbers}
+use Rattle.entry.specs.Entered.{given}
+use Rattle.outcome.specs.declared.refusal.Refusal.{Refusal}
+use Rattle.outcome.specs.Refusal.{number_of}
+use Rattle.outcome.proofs.Refusals.{number-positive}
 
 -- the words of an admitted file lie within its bytes
 pub free-within : (bytes : ℕ) (d : DescriptorNumbers) (addresses : List RecordNumber) → Admitted bytes d addresses → 4 * free_of d ≤ bytes
@@ -179,6 +184,14 @@ module _ (file : List ℕ) (d : DescriptorNumbers) (addresses : List RecordNumbe
   unfolding entered_of
   entered-refused n z h = simp (z, h)
 
+  -- so is a call's answer that gives them
+  pub entered-given : {x : Numbers} → (entry_refusal file d addresses e ≡ 0) × (x ≡ numbers_of file d addresses e) → given x ≡ entered_of file d addresses e
+  entered-given h = ap given h.1 ∙ sym (entered-numbers h.0)
+
+  -- and one that refuses
+  pub entered-not : (r : Refusal) → number_of r ≡ entry_refusal file d addresses e → not_entered (number_of r) ≡ entered_of file d addresses e
+  entered-not r h = sym (entered-refused (number_of r) (sym h) (ne_eqb (number_of r) 0 (number-positive r)))
+
   -- the refusal of what was entered is the entry's
   pub entered-refusal : (entered_of file d addresses e).refusal ≡ entry_refusal file d addresses e
   entered-refusal =
@@ -193,11 +206,11 @@ module _ (file : List ℕ) (d : DescriptorNumbers) (addresses : List RecordNumbe
   entry-number h = refusal-append (number_rules d e) (after_number file d e here) (omega arith) ∙ rw h
 
   -- as is one below 1, and one past the file's
-  pub number_low : e.0 < 1 → entered_of file d addresses e ≡ not_entered 12
-  number_low low = entered-refused 12 (entry-number (rw (lt-leb 1 e.0 low))) refl
+  pub number_low : e.0 < 1 → entry_refusal file d addresses e ≡ 12
+  number_low low = entry-number (rw (lt-leb 1 e.0 low))
 
-  pub number_high : 1 ≤ e.0 → entries_before d.xnext < e.0 → entered_of file d addresses e ≡ not_entered 12
-  number_high some past = entered-refused 12 (entry-number (rw (le-leb 1 e.0 some, lt-leb e.0 (entries_before d.xnext) past))) refl
+  pub number_high : 1 ≤ e.0 → entries_before d.xnext < e.0 → entry_refusal file d addresses e ≡ 12
+  number_high some past = entry-number (rw (le-leb 1 e.0 some, lt-leb e.0 (entries_before d.xnext) past))
 
   rest : refusal_in (number_rules d e) ≡ 0
       → let start = start_of d here in
@@ -215,13 +228,13 @@ module _ (file : List ℕ) (d : DescriptorNumbers) (addresses : List RecordNumbe
     abbrev start : ℕ
     start = start_of d place
 
-    -- an entry whose start is refused
-    pub refused-start : (n : ℕ) → start_refusal d place ≡ n → eqb n 0 ≡ false → entered_of file d addresses e ≡ not_entered n
-    refused-start n z h = entered-refused n (rest number ∙ rw (← is, z, h)) h
+    -- the refusal of the start is the entry's
+    pub refused-start : (n : ℕ) → start_refusal d place ≡ n → eqb n 0 ≡ false → entry_refusal file d addresses e ≡ n
+    refused-start n z h = rest number ∙ rw (← is, z, h)
 
-    -- an entry whose head is refused
-    pub refused-head : (n : ℕ) → start_refusal d place ≡ 0 → head_refusal file d start e ≡ n → eqb n 0 ≡ false → entered_of file d addresses e ≡ not_entered n
-    refused-head n s z h = entered-refused n (rest number ∙ rw (← is, s, z, h)) h
+    -- and so is that of the head
+    pub refused-head : (n : ℕ) → start_refusal d place ≡ 0 → head_refusal file d start e ≡ n → eqb n 0 ≡ false → entry_refusal file d addresses e ≡ n
+    refused-head n s z h = rest number ∙ rw (← is, s, z, h)
 
     -- behind the head the refusal is that of the contents
     pub entry-content : (n : ℕ) → start_refusal d place ≡ 0 → head_refusal file d start e ≡ 0

@@ -8,7 +8,7 @@ use Rattle.descriptor.specs.declared.validating.Validated.TheVariants as validat
 use Rattle.descriptor.specs.Answers.{validation_of}
 use Rattle.pieces.specs.declared.contents.Piece.{Piece}
 use Rattle.pieces.specs.Tables.{sections_of, no_sections}
-use Rattle.entry.specs.declared.entered.Entered.{Entered}
+use Rattle.entry.specs.Entered.{Entered}
 use Rattle.entry.specs.declared.answers.DataPlace.{DataPlace}
 use Rattle.entry.specs.declared.answers.Open.{Open}
 use Rattle.entry.specs.declared.answers.Open.TheVariants.{Numbers, Refused}

@@ -16,7 +16,8 @@ use Rattle.descriptor.specs.FirstRecord.{aex_of, growth_in, free_of}
 use Rattle.pieces.specs.declared.contents.Piece.{Piece}
 use Rattle.pieces.specs.EntryDescriptor.{entry_code_of, version_of, nsec_of, nword_of, xnum_of, data_of}
 use Rattle.pieces.specs.Contents.{data_within, sections_within, sections_apart, data_apart}
-use Rattle.entry.specs.declared.entered.Entered.{Entered}
+use Rattle.entry.specs.declared.entered.Entered.{Entered as Numbers}
+use Rattle.entry.specs.Entered.{Entered, given}
 
 -- where the index of entry e stands: its slot in its extension's area
 unfoldable pub slot_position_of : DescriptorNumbers → List RecordNumber → EntryNumber → ℕ
@@ -106,9 +107,8 @@ not_entered n = record {
 }
 
 -- the numbers of the entry that starts at a place
-abbrev pub entered_at : List ℕ → DescriptorNumbers → Place → Entered
-entered_at file d place = record {
-  refusal = 0;
+abbrev pub numbers_at : List ℕ → DescriptorNumbers → Place → Numbers
+numbers_at file d place = record {
   place = place;
   start = start_of d place;
   version = version_of file (start_of d place);
@@ -116,6 +116,14 @@ entered_at file d place = record {
   nword = nword_of file (start_of d place);
   array = data_of file (start_of d place);
 }
+
+-- and those of entry e, which starts at the place that its slot names
+abbrev pub numbers_of : List ℕ → DescriptorNumbers → List RecordNumber → EntryNumber → Numbers
+numbers_of file d addresses e = numbers_at file d (place_stored file (slot_position_of d addresses e))
+
+-- an entry that is given, with the numbers of the one that starts at a place
+abbrev pub entered_at : List ℕ → DescriptorNumbers → Place → Entered
+entered_at file d place = given (numbers_at file d place)
 
 -- entry e of validated numbers: its numbers, or the refusal
 unfoldable pub entered_of : List ℕ → DescriptorNumbers → List RecordNumber → EntryNumber → Entered

@@ -7,7 +7,7 @@ use super::inner::enter;
 use descriptor::inner::admit;
 use descriptor::{Validated, refusal_of};
 use geometry::EntryNumber;
-use pieces::{no_sections, section_tables};
+use pieces::{EntryWords, no_sections};
 
 // An open with a refusal.
 fn refused(refusal: u32) -> Opened
@@ -21,7 +21,6 @@ fn refused(refusal: u32) -> Opened
 
 // Opens an entry by its number: its numbers and tables, or the first rule of 1 to 11, 29 and 12
 // to 19 that is broken.
-#[tactic(auto, using(crate::proofs::OpenedEntry::entered_or_refused))]
 pub fn open_entry(file: &[u8], number: EntryNumber) -> Opened
     ensures { Answers (open_of file.now number) result }
 {
@@ -30,18 +29,24 @@ pub fn open_entry(file: &[u8], number: EntryNumber) -> Opened
     let Validated::Numbers(d) = case else {
         return refused(refusal_of(case));
     };
-    let entered = enter(file, d, &totals, number);
-    if entered.refusal != 0 {
-        return refused(entered.refusal);
-    }
+    let entered = match enter(file, d, &totals, number) {
+        Ok(entered) => entered,
+        Err(refusal) => return refused(refusal.number()),
+    };
+    let entry = EntryWords {
+        order: d.order,
+        file,
+        start: entered.start,
+        nsec: entered.nsec,
+    };
     let place = entered.place;
     let array = entered.array;
     let stored = DataPlace {
-        adata: DataAddress(words::signed64(array.address.0)),
+        adata: DataAddress(array.address.0.cast_signed()),
         ldata: array.words,
     };
     Opened {
         answer: Open::Numbers(place, entered.version, entered.nsec, entered.nword, stored),
-        sections: section_tables(d.order, file, entered.start, entered.nsec),
+        sections: entry.tables(),
     }
 }

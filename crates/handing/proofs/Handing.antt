@@ -16,20 +16,20 @@ use Rattle.geometry.specs.declared.units.EntryNumber.{EntryNumber}
 use Rattle.descriptor.specs.declared.numbers.DescriptorNumbers.{DescriptorNumbers}
 use Rattle.descriptor.specs.declared.validating.Validated.{Validated}
 use Rattle.descriptor.specs.declared.validating.Validated.TheVariants.{Numbers, Refused}
-use Rattle.descriptor.specs.Refusal.{refusal_in}
+use Rattle.descriptor.specs.FirstRecord.{addresses_of}
 use Rattle.descriptor.specs.Bounds.{Admitted, AdmittedIn}
 use Rattle.descriptor.specs.Answers.{validation_of, no_validation, Validates}
 use Rattle.descriptor.proofs.Answered.{told}
 use Rattle.pieces.specs.EntryDescriptor.{section_of}
 use Rattle.pieces.specs.Tables.{section_named}
 use Rattle.pieces.proofs.Pieces.{described-in, section-placed, data-placed}
-use Rattle.entry.specs.declared.entered.Entered.{Entered}
-use Rattle.entry.specs.Opening.{number_rules, entered_of}
-use Rattle.entry.proofs.Entering.{slot_lent, entry-number, entered-refused}
+use Rattle.entry.specs.Entered.{Entered}
+use Rattle.entry.specs.Opening.{entered_of}
+use Rattle.entry.proofs.Entering.{slot_lent}
 use Rattle.entry.proofs.OpenedEntry.{Known, known}
 use Rattle.handing.specs.declared.place.PartPlace.{PartPlace}
 use Rattle.handing.specs.Bounds.{Readable}
-use Rattle.handing.specs.Parts.{no_part, piece_from, index_part, section_in, section_part, data_part, part_in, index_words_of, section_words_of, data_words_of, IsPart}
+use Rattle.handing.specs.Parts.{no_part, piece_from, index_part, section_in, section_part, data_part, part_in, PartBy, index_words_of, section_words_of, data_words_of, IsPart}
 
 -- a part lies within so many bytes, and is whole words, no more than a file has
 pub record Inside (bytes : ℕ) (p : PartPlace) : Type 0 where
@@ -74,6 +74,19 @@ whole file f P none some = by (validation_of file).numbers refl
     by (Numbers d) q = some (validation_of file).addresses d (told file (validation_of file) d refl q).admitted.admitted
     by (Refused n) q = none n
 
+-- a part that is found by a file's numbers is the file's, where whatever is found by them is made of them and of the file's addresses
+pub part_by : (file : List ℕ) (f : List RecordNumber → DescriptorNumbers → PartPlace) (Finds : DescriptorNumbers → Bor (List ℕ) → PartPlace → Type 0) {p : PartPlace}
+    → PartBy Finds (validation_of file).numbers p → ((d : DescriptorNumbers) (totals : Bor (List ℕ)) → Finds d totals p → p ≡ f (addresses_of file d.nex) d)
+    → p ≡ part_in (validation_of file).numbers (f (validation_of file).addresses)
+unfolding part_in
+part_by file f Finds {p} found made = by (validation_of file).numbers refl found
+  where
+    by : (case : Validated) → (validation_of file).numbers ≡ case → PartBy Finds case p → p ≡ part_in case (f (validation_of file).addresses)
+    by (Refused n) q found = found
+    by (Numbers d) q found =
+        let t = told file (validation_of file) d refl q in
+        made d found.0 found.1 ∙ rw (t.addresses, t.numbers)
+
 -- which part it is, by the validation
 module _ (file : List ℕ) where
   -- a part of a file that is refused is refused with it
@@ -86,12 +99,6 @@ module _ (file : List ℕ) where
       → Validates file d addresses → p ≡ f addresses d → p ≡ part_in (validation_of file).numbers (f (validation_of file).addresses)
   unfolding part_in
   whole_numbers f q h = h ∙ rw q
-
--- a number that no entry has gives no index words
-pub index_number : (file : List ℕ) (d : DescriptorNumbers) (addresses : List RecordNumber) (e : EntryNumber)
-    → refusal_in (number_rules d e) ≡ 12 → index_part file d addresses e ≡ no_part 12
-unfolding index_part
-index_number file d addresses e h = rw (entered-refused file d addresses e 12 (entry-number file d addresses e h) refl)
 
 -- the three parts of a file
 module _ (file : List ℕ) (e : EntryNumber) where

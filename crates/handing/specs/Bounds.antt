@@ -3,7 +3,7 @@ use Rattle.std.specs.Prelude.{ℕ, ◌+◌, ◌*◌, ◌^◌, ◌≤◌, ◌<◌
 use Rattle.words.specs.declared.byte_order.ByteOrder.{ByteOrder}
 use Rattle.pieces.specs.Contents.{sections_within}
 use Rattle.pieces.specs.Bounds.{Described}
-use Rattle.entry.specs.declared.entered.Entered.{Entered}
+use Rattle.entry.specs.Entered.{Entered}
 
 -- where it was not refused, its tables lie within the bytes lent, and its sections within its words
 pub record Readable (order : ByteOrder) (file : List ℕ) (x : Entered) : Type 0 where

@@ -12,7 +12,7 @@ use Rattle.descriptor.specs.Answers.{validation_of}
 use Rattle.pieces.specs.declared.contents.Piece.{Piece}
 use Rattle.pieces.specs.EntryDescriptor.{section_of}
 use Rattle.pieces.specs.Tables.{section_named}
-use Rattle.entry.specs.declared.entered.Entered.{Entered}
+use Rattle.entry.specs.Entered.{Entered}
 use Rattle.entry.specs.Opening.{slot_position_of, entered_of}
 use Rattle.handing.specs.declared.place.PartPlace.{PartPlace}
 
@@ -56,6 +56,11 @@ data_part file d addresses e =
 unfoldable pub part_in : Validated → (DescriptorNumbers → PartPlace) → PartPlace
 part_in (validated.Refused n) f = no_part n
 part_in (validated.Numbers d) f = f d
+
+-- p is a part that a search finds by the numbers of a file and some totals, or the file's own refusal
+abbrev pub PartBy : (DescriptorNumbers → Bor (List ℕ) → PartPlace → Type 0) → Validated → PartPlace → Type 0
+PartBy Finds (validated.Refused n) p = p ≡ no_part n
+PartBy Finds (validated.Numbers d) p = (totals : Bor (List ℕ)) × Finds d totals p
 
 -- where the index words of entry e of a file stand
 abbrev pub index_words_of : List ℕ → EntryNumber → PartPlace

@@ -3,6 +3,7 @@ ghost use Rattle.std.specs.Prelude.{◌+◌, ◌^◌, ◌<◌};
 ghost use Rattle.outcome.specs.Outcome.{Answers};
 ghost use Rattle.descriptor.specs.FirstRecord.{addresses_of};
 ghost use Rattle.descriptor.specs.Bounds.{AdmittedIn, TotalsOf};
+ghost use Rattle.entry.specs.Entered.{given};
 ghost use Rattle.handing.specs.Parts.{index_part, section_in, section_part, data_part, no_part, words_from};
 ghost use Rattle.handing.specs.Bounds.{Readable};
 
@@ -11,7 +12,8 @@ use descriptor::DescriptorNumbers;
 use entry::Entered;
 use entry::inner::{enter, enter_at, slot_position};
 use geometry::{EntryNumber, byte_offset, entries_before, entry_position};
-use pieces::{section_at, section_named};
+use outcome::Refusal;
+use pieces::EntryWords;
 use words::ByteOrder;
 
 // A part with a refusal, or with nothing in it.
@@ -20,8 +22,7 @@ pub fn no_part(refusal: u32) -> PartPlace
 {
     PartPlace {
         refusal,
-        start: 0,
-        end: 0,
+        ..PartPlace::default()
     }
 }
 
@@ -48,42 +49,42 @@ pub fn index_part(
     requires { AdmittedIn file.now d (addresses_of file.now d.nex) × TotalsOf d totals.now }
     ensures { Answers (index_part file.now d (addresses_of file.now d.nex) number) result }
 {
-    if number.0 < 1 {
-        return no_part(12);
-    }
-    if entries_before(d.xnext) < number.0 {
-        return no_part(12);
+    if number.0 < 1 || entries_before(d.xnext) < number.0 {
+        return no_part(Refusal::Number.number());
     }
     let slot = slot_position(file, d, totals, number);
-    let entered = enter_at(file, d, slot, number);
-    if entered.refusal != 0 {
-        return no_part(entered.refusal);
+    if let Err(refusal) = enter_at(file, d, slot, number) {
+        return no_part(refusal.number());
     }
     words_from(slot + 3, d.lind - 3)
 }
 
-// Where the first section with an identifier stands, of an entry that was entered.
+// Where the first section with an identifier stands, of an entry by its numbers.
 pub(crate) fn named_part(
     order: ByteOrder,
     file: &[u8],
     entered: Entered,
     identifier: i32,
 ) -> PartPlace
-    requires { Readable order file.now entered }
-    ensures { Answers (section_in file.now entered identifier) result }
+    requires { Readable order file.now (given entered) }
+    ensures { Answers (section_in file.now (given entered) identifier) result }
 {
-    if entered.refusal != 0 {
-        return no_part(entered.refusal);
-    }
-    let found = section_named(order, file, entered.start, entered.nsec, identifier);
-    if entered.nsec <= found {
-        return no_part(20);
-    }
-    let piece = section_at(order, file, entered.start, entered.nsec, found);
+    let stored = EntryWords {
+        order,
+        file,
+        start: entered.start,
+        nsec: entered.nsec,
+    };
+    let Some(found) = stored.named(identifier) else {
+        return no_part(Refusal::NoSection.number());
+    };
+    let piece = stored.section(found);
     words_from(entry_position(entered.start, piece.address), piece.words)
 }
 
-// Where the first section with an identifier stands.
+// Where the first section with an identifier stands. It is laid out in each of its callers, since as a call of its own it
+// would hand the slice on.
+#[inline(always)]
 pub fn section_part(
     file: &[u8],
     d: DescriptorNumbers,
@@ -94,8 +95,10 @@ pub fn section_part(
     requires { AdmittedIn file.now d (addresses_of file.now d.nex) × TotalsOf d totals.now }
     ensures { Answers (section_part file.now d (addresses_of file.now d.nex) number identifier) result }
 {
-    let entered = enter(file, d, totals, number);
-    named_part(d.order, file, entered, identifier)
+    match enter(file, d, totals, number) {
+        Ok(entered) => named_part(d.order, file, entered, identifier),
+        Err(refusal) => no_part(refusal.number()),
+    }
 }
 
 // Where the data stands.
@@ -108,13 +111,13 @@ pub fn data_part(
     requires { AdmittedIn file.now d (addresses_of file.now d.nex) × TotalsOf d totals.now }
     ensures { Answers (data_part file.now d (addresses_of file.now d.nex) number) result }
 {
-    let entered = enter(file, d, totals, number);
-    if entered.refusal != 0 {
-        return no_part(entered.refusal);
-    }
+    let entered = match enter(file, d, totals, number) {
+        Ok(entered) => entered,
+        Err(refusal) => return no_part(refusal.number()),
+    };
     let piece = entered.array;
     if piece.words == 0 {
-        return no_part(0);
+        return PartPlace::default();
     }
     words_from(entry_position(entered.start, piece.address), piece.words)
 }

@@ -14,7 +14,7 @@ use Rattle.descriptor.specs.Refusal.{row, refusal_in}
 use Rattle.descriptor.specs.FirstRecord.{growth_in}
 use Rattle.descriptor.specs.Answers.{validation_of, no_validation, Validates}
 use Rattle.descriptor.proofs.Tests.{holds, broken}
-use Rattle.entry.specs.declared.entered.Entered.{Entered}
+use Rattle.entry.specs.Entered.{Entered}
 use Rattle.entry.specs.Opening.{entered_of, end_of}
 use Rattle.entry.proofs.Entering.{entry-number, entered-refused}
 use Rattle.order.specs.declared.answers.Checked.{Checked}

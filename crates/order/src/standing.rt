@@ -2,32 +2,20 @@
 ghost use Rattle.outcome.specs.Outcome.{Answers};
 ghost use Rattle.descriptor.specs.FirstRecord.{addresses_of};
 ghost use Rattle.descriptor.specs.Bounds.{TotalsOf};
-ghost use Rattle.order.specs.Standing.{no_standing, standing_of, Follows};
+ghost use Rattle.order.specs.Standing.{standing_of, Follows};
 
 use descriptor::DescriptorNumbers;
 use descriptor::inner::aex_in;
 use geometry::{EntryNumber, ExtensionNumber, WordNumber, position, total_before};
 
 // Where an entry stands in the index: its extension, how many entries the extensions before it and up to it hold
-// together, and the position of its slot.
-#[derive(Clone, Copy)]
+// together, and the position of its slot. Before the first entry all is 0.
+#[derive(Clone, Copy, Default)]
 pub struct Standing {
     pub extension: ExtensionNumber,
     pub before: u64,
     pub total: u64,
     pub slot: u64,
-}
-
-// The standing before the first entry: all is 0.
-pub(crate) fn no_standing() -> Standing
-    ensures { Answers no_standing result }
-{
-    Standing {
-        extension: ExtensionNumber(0),
-        before: 0,
-        total: 0,
-        slot: 0,
-    }
 }
 
 // The standing of an entry in use, from that of the entry before it: in the same extension the next slot, and where that
@@ -42,9 +30,8 @@ pub(crate) fn standing_next(
     requires { Follows file.now d number at × TotalsOf d totals.now }
     ensures { Answers (standing_of d (addresses_of file.now d.nex) number) result }
 {
-    let extension = at.extension;
     if at.total < number.0 {
-        let next = ExtensionNumber(extension.0 + 1);
+        let next = ExtensionNumber(at.extension.0 + 1);
         let first = aex_in(d.order, file, next);
         return Standing {
             extension: next,
@@ -54,9 +41,7 @@ pub(crate) fn standing_next(
         };
     }
     Standing {
-        extension,
-        before: at.before,
-        total: at.total,
         slot: at.slot + d.lind,
+        ..at
     }
 }

@@ -1,12 +1,14 @@
 -- Laws of an entry's pieces: the tests that run over the sections, one section after the other, and where a piece stands that passed.
 -- Assumes nothing.
-use mathlib.Core.Path.{◌≡◌, refl}
-use mathlib.Core.Bool.{Bool, true, ◌&&◌, and-eq-true_iff}
+use mathlib.Core.Path.{◌≡◌, refl, sym, ap, ◌∙◌}
+use mathlib.Core.Bool.{Bool, true, ◌&&◌, and-true, and_assoc, and-eq-true_iff}
 use mathlib.Core.List.{List}
-use Prim.Native.Nat.{ℕ, ◌+◌, ◌^◌, ◌≤◌, ◌<◌}
+use Prim.Native.Nat.{ℕ, zero, suc, ◌+◌, ◌^◌, ◌≤◌, ◌<◌}
 use native.Mathlib.Omega.{arith}
+use native.Mathlib.Nat.{add-zero, zero-add}
 use native.Mathlib.Numerals.{add-one}
 use borrow.Author.Tests.{leb-true, le-leb, ne_eqb}
+use Rattle.std.specs.List.{list_all, range_with_len}
 use Rattle.words.specs.declared.byte_order.ByteOrder.{ByteOrder}
 use Rattle.words.specs.Word.{integer8, signed_of}
 use Rattle.words.specs.Range.{at_least}
@@ -39,6 +41,13 @@ within-bounds nsec nword p e =
     let start = at_least-bounds integer8 (first_content nsec).0 p.address.0 both.0 in
     (start.0, start.1, leb-true (p.address.0 + p.words) (nword + 1) both.1)
 
+-- a piece that passes both tests stands within those words
+pub piece-placed : (nsec nword : ℕ) (p : Piece) → at_least 1 (signed_of integer8 p.words) ≡ true → piece_within nsec nword p ≡ true → Placed nsec nword p
+piece-placed nsec nword p some e =
+    let words = at_least-bounds integer8 1 p.words some in
+    let within = within-bounds nsec nword p e in
+    omega arith
+
 module _ (file : List ℕ) (start nsec nword : ℕ) where
   -- the test of one section
   abbrev pub section_within : ℕ → Bool
@@ -55,9 +64,7 @@ module _ (file : List ℕ) (start nsec nword : ℕ) where
   section-placed i n h e =
       let s = section_of file start nsec i in
       let both = (and-eq-true_iff (at_least 1 (signed_of integer8 s.words)) (piece_within nsec nword s)).0 (run-test within-run i n h e) in
-      let words = at_least-bounds integer8 1 s.words both.0 in
-      let within = within-bounds nsec nword s both.1 in
-      omega arith
+      piece-placed nsec nword s both.0 both.1
 
 -- and so does the data that passed, if there is any
 pub data-placed : (nsec nword : ℕ) (p : Piece) → nword < 2 ^ 32 → (p.words ≡ 0 → ⊥) → data_within nsec nword p ≡ true → Placed nsec nword p
@@ -97,3 +104,11 @@ sections-none file start nsec = refl
 pub apart-ends : (p q : Piece) → p.address.0 + p.words ≤ q.address.0 → apart p q ≡ true
 unfolding apart
 apart-ends p q l = rw (le-leb (p.address.0 + p.words) q.address.0 l)
+
+-- a run passes where each of its tests does, which are looked at in turn
+pub run-list : {run test : ℕ → Bool} → Run run test → run 0 ≡ true → (n : ℕ) → list_all test (range_with_len 0 n) ≡ run n
+run-list {run} {test} r z n = sym (ap run (sym (zero-add n)) ∙ from 0 n ∙ ap (λ (b : Bool). b && list_all test (range_with_len 0 n)) z)
+  where
+    from : (a n : ℕ) → run (a + n) ≡ run a && list_all test (range_with_len a n)
+    from a zero = ap run (add-zero a) ∙ sym (and-true (run a))
+    from a (suc n) = let e : a + suc n ≡ a + 1 + n = omega arith in ap run e ∙ from (a + 1) n ∙ rw (r.next a, and_assoc)

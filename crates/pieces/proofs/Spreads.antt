@@ -1,6 +1,6 @@
 -- Laws of how the sections of an entry stand in it: the highest end, and sections in order. Assumes nothing.
-use mathlib.Core.Path.{◌≡◌, refl, sym}
-use mathlib.Core.Bool.{true, false, and-true, and-false}
+use mathlib.Core.Path.{◌≡◌, refl, sym, ap, ◌∙◌}
+use mathlib.Core.Bool.{Bool, true, false, and-true, and-false}
 use mathlib.Core.List.{List}
 use Prim.Native.Nat.{ℕ, ◌+◌, ◌≤◌, ◌<◌, max}
 use native.Mathlib.Omega.{arith}
@@ -9,13 +9,17 @@ use native.Mathlib.Decide.{le_ind}
 use borrow.Author.Tests.{leb-true, le-leb, lt-leb}
 use lib.Dec.{leb}
 use Rattle.outcome.proofs.Either.{either}
-use Rattle.words.proofs.Runs.{Run, run-test, run-all}
+use Rattle.std.specs.Prelude.{Some, None}
+use Rattle.words.specs.Word.{integer8, signed_of}
+use Rattle.words.specs.Range.{at_least}
+use Rattle.words.proofs.Runs.{Run, run-next, run-test, run-all, run-failed}
 use Rattle.pieces.specs.declared.contents.Piece.{Piece}
 use Rattle.pieces.specs.declared.spread.Spread.{Spread}
 use Rattle.pieces.specs.EntryDescriptor.{section_of}
-use Rattle.pieces.specs.Contents.{sections_within, apart_from, sections_apart}
+use Rattle.pieces.specs.Contents.{piece_within, sections_within, apart_from, sections_apart}
 use Rattle.pieces.specs.Spread.{highest_end, in_order, spread_of}
-use Rattle.pieces.proofs.Pieces.{apart-run, apart_none, apart-ends, sections-run, sections-none}
+use Rattle.pieces.specs.Bounds.{Ending}
+use Rattle.pieces.proofs.Pieces.{within-run, section-placed, apart-run, apart_none, apart-ends, sections-run, sections-none}
 
 module _ (file : List ℕ) (start nsec : ℕ) where
   -- the end of section k
@@ -63,25 +67,52 @@ module _ (file : List ℕ) (start nsec : ℕ) where
       run-all (apart-run file start nsec p) (apart_none file start nsec p) k
       (λ i l. apart-ends (section_of file start nsec i) p (omega (arith, end-highest i k l)))
 
-  -- and so sections in order share no word
+  -- and a test against it says so
+  pub apart_after : (p : Piece) (k end : ℕ) → end ≡ highest_end file start nsec k → end ≤ p.address.0 → leb end p.address.0 ≡ apart_from file start nsec p k
+  apart_after p k end e h = le-leb end p.address.0 h ∙ sym (apart-after p k (omega arith))
+
+  -- so sections in order share no word
   pub ordered-apart : (k : ℕ) → in_order file start nsec k ≡ true → sections_apart file start nsec k ≡ true
   ordered-apart k e =
       run-all (sections-run file start nsec) (sections-none file start nsec) k
       (λ i l. apart-after (section_of file start nsec i) i (leb-true _ _ (run-test order-run i k l e)))
 
-  -- what the pass says, r, of an entry of nword words
-  module _ (nword : ℕ) {r : Spread} (e : r ≡ spread_of file start nsec nword) where
-    -- whether the sections lie within it
-    pub spread-within : r.within ≡ sections_within file start nsec nword nsec
-    unfolding spread_of
-    spread-within = either (sections_within file start nsec nword nsec) (λ q. rw (e, q)) (λ q. rw (e, q))
+  -- which need no comparison
+  pub ordered_apart : {ordered : Bool} → ordered ≡ in_order file start nsec nsec → ordered ≡ true → ordered ≡ sections_apart file start nsec nsec
+  ordered_apart e h = h ∙ sym (ordered-apart nsec (sym e ∙ h))
 
-    -- where they do, whether they stand in order
-    pub spread-ordered : sections_within file start nsec nword nsec ≡ true → r.ordered ≡ in_order file start nsec nsec
+  -- the pass over an entry of nword words
+  module _ (nword : ℕ) where
+    -- says nothing where a section, s, has no word
+    pub spread-empty : (k : ℕ) {s : Piece} → s ≡ section_of file start nsec k → k < nsec → at_least 1 (signed_of integer8 s.words) ≡ false → None ≡ spread_of file start nsec nword
     unfolding spread_of
-    spread-ordered q = rw (e, q)
+    spread-empty k e l h = rw (run-failed (within-run file start nsec nword) k nsec l (rw (← e, h)))
 
-    -- and the highest of their ends
-    pub spread_end : sections_within file start nsec nword nsec ≡ true → r.end.0 ≡ highest_end file start nsec nsec
+    -- nor where one does not lie within the entry
+    pub spread-outside : (k : ℕ) {s : Piece} → s ≡ section_of file start nsec k → k < nsec → at_least 1 (signed_of integer8 s.words) ≡ true → piece_within nsec nword s ≡ false
+        → None ≡ spread_of file start nsec nword
     unfolding spread_of
-    spread_end q = rw (e, q)
+    spread-outside k e l h q = rw (run-failed (within-run file start nsec nword) k nsec l (rw (← e, h, q)))
+
+    -- one more section that does lies within it too
+    pub within-next : (k : ℕ) {s : Piece} → s ≡ section_of file start nsec k → sections_within file start nsec nword k ≡ true → at_least 1 (signed_of integer8 s.words) ≡ true
+        → piece_within nsec nword s ≡ true → sections_within file start nsec nword (k + 1) ≡ true
+    within-next k e z h q = run-next (within-run file start nsec nword) k z ∙ rw (← e, h, q)
+
+    -- where all do, the sections have ends that fit
+    pub ending : sections_within file start nsec nword nsec ≡ true → Ending file start nsec
+    ending e = record { each = λ i l. (section-placed file start nsec nword i nsec l e).small }
+
+    -- where it says nothing they do not all lie within the entry
+    pub spread-none : None ≡ spread_of file start nsec nword → sections_within file start nsec nword nsec ≡ false
+    unfolding spread_of
+    spread-none e = either (sections_within file start nsec nword nsec) (λ q. cc (rw q at e)) (λ q. q)
+
+    -- and where it says r they do, r says whether they stand in order, and the highest of their ends
+    pub spread-some : {r : Spread} → Some r ≡ spread_of file start nsec nword
+        → (sections_within file start nsec nword nsec ≡ true) × (r.ordered ≡ in_order file start nsec nsec) × (r.end.0 ≡ highest_end file start nsec nsec)
+    unfolding spread_of
+    spread-some {r} e =
+        either (sections_within file start nsec nword nsec)
+        (λ q. let h = rw q at e in let s : r ≡ record { ordered = in_order file start nsec nsec; end = record { 0 = highest_end file start nsec nsec } } = cc in (q, ap (λ (x : Spread). x.ordered) s, ap (λ (x : Spread). x.end.0) s))
+        (λ q. cc (rw q at e))

@@ -1,6 +1,7 @@
 -- The entry descriptor (01, "An entry"; the memo's Table 4): its fields as stored.
 -- An entry is known by the position of its first word, start.
 use Rattle.std.specs.Prelude.{ℕ, List, ℤ}
+use Rattle.std.specs.Int.{Width}
 use Rattle.image.specs.Image.{part}
 use Rattle.words.specs.Word.{integer4, integer8, bits_at, signed_of}
 use Rattle.geometry.specs.declared.units.EntryAddress.{EntryAddress}
@@ -14,13 +15,17 @@ use Rattle.pieces.specs.declared.head.Head.{Head}
 abbrev pub word_offset : ℕ → EntryAddress → ℕ
 word_offset start a = offset_of (entry_position_of start a)
 
--- the bits of the Integer*4 at a word, in the file's order
-unfoldable pub word4 : List ℕ → ℕ → EntryAddress → ℕ
-word4 file start a = bits_at (byte_order_of file) integer4 file (word_offset start a)
+-- the bits of the integer of a width at a word and those behind it, in the file's order
+unfoldable pub word_of : Width → List ℕ → ℕ → EntryAddress → ℕ
+word_of width file start a = bits_at (byte_order_of file) width file (word_offset start a)
 
--- the bits of the Integer*8 at a word and the next
-unfoldable pub word8 : List ℕ → ℕ → EntryAddress → ℕ
-word8 file start a = bits_at (byte_order_of file) integer8 file (word_offset start a)
+-- of the Integer*4 at a word
+abbrev pub word4 : List ℕ → ℕ → EntryAddress → ℕ
+word4 file start a = word_of integer4 file start a
+
+-- and of the Integer*8 at a word and the next
+abbrev pub word8 : List ℕ → ℕ → EntryAddress → ℕ
+word8 file start a = word_of integer8 file start a
 
 -- the code, as four bytes
 unfoldable pub entry_code_of : List ℕ → ℕ → List ℕ

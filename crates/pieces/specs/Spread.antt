@@ -1,5 +1,5 @@
--- How the sections of an entry stand in it, which one pass over them finds: whether all lie within it, whether they stand in order, and the highest of their ends.
-use Rattle.std.specs.Prelude.{ℕ, zero, suc, ◌+◌, max, Bool, true, false, cond, ◌&&◌, List, leb}
+-- How the sections of an entry stand in it, which one pass over them finds: where all lie within it, whether they stand in order, and the highest of their ends.
+use Rattle.std.specs.Prelude.{ℕ, zero, suc, ◌+◌, max, Bool, true, cond, ◌&&◌, List, leb, Option, Some, None}
 use Rattle.pieces.specs.declared.spread.Spread.{Spread}
 use Rattle.pieces.specs.EntryDescriptor.{section_of}
 use Rattle.pieces.specs.Contents.{sections_within}
@@ -15,13 +15,9 @@ unfoldable pub in_order : List ℕ → ℕ → ℕ → ℕ → Bool
 in_order file start nsec zero = true
 in_order file start nsec (suc k) = in_order file start nsec k && leb (highest_end file start nsec k) (section_of file start nsec k).address.0
 
--- what is said where a section does not lie within the entry
-abbrev pub outside : Spread
-outside = record { within = false; ordered = false; end = record { 0 = 0 } }
-
--- how the nsec sections stand in an entry of nword words
-unfoldable pub spread_of : List ℕ → ℕ → ℕ → ℕ → Spread
+-- how the nsec sections stand in an entry of nword words; None where one does not lie within it
+unfoldable pub spread_of : List ℕ → ℕ → ℕ → ℕ → Option Spread
 spread_of file start nsec nword =
     cond (sections_within file start nsec nword nsec)
-    (record { within = true; ordered = in_order file start nsec nsec; end = record { 0 = highest_end file start nsec nsec } })
-    outside
+    (Some (record { ordered = in_order file start nsec nsec; end = record { 0 = highest_end file start nsec nsec } }))
+    None

@@ -1,5 +1,5 @@
 -- The three tables of 64 places, and which section an identifier names.
-use Rattle.std.specs.Prelude.{ℕ, zero, suc, ◌+◌, Bool, cond, ◌&&◌, List, ℤ, pos, replicate}
+use Rattle.std.specs.Prelude.{ℕ, zero, suc, ◌+◌, Bool, cond, ◌&&◌, List, ltb, Option, Some, None, ℤ, pos, replicate}
 use Rattle.std.specs.Int.Signed.{le_z}
 use Rattle.words.specs.Table.{places}
 use Rattle.geometry.specs.declared.units.EntryAddress.{EntryAddress}
@@ -45,3 +45,9 @@ section_named file start identifier i zero = i
 section_named file start identifier i (suc left) =
     let later = section_named file start identifier (i + 1) left in
     cond (same_integer (identifier_at file start i) identifier) i later
+
+-- the first of the nsec sections that has the identifier; None where none has
+unfoldable pub named_of : List ℕ → ℕ → ℕ → ℤ → Option ℕ
+named_of file start nsec identifier =
+    let i = section_named file start identifier 0 nsec in
+    cond (ltb i nsec) (Some i) None

@@ -5,8 +5,8 @@ ghost use Rattle.layout.specs.FileCode.{byte_order_of};
 ghost use Rattle.layout.specs.EntryWords.{head_words};
 ghost use Rattle.pieces.specs.EntryDescriptor.{head_at};
 
-use super::contents::{word4_at, word8_at};
-use geometry::{EntryAddress, EntryNumber, byte_offset, entry_position};
+use super::contents::word_at;
+use geometry::{EntryAddress, EntryNumber};
 use layout::entry_descriptor;
 use words::ByteOrder;
 
@@ -22,18 +22,18 @@ pub struct Head {
 }
 
 // The head that stands at a position, read in the order that the file's code says.
+#[tactic(auto, unfolding(crate::specs::EntryDescriptor::word4))]
 fn head_in(order: ByteOrder, file: &[u8], start: u64) -> Head
     requires { (order ≡ byte_order_of file.now) × (4 * (start + head_words) ≤ length file.now) }
     ensures { Answers (head_at file.now start) result }
 {
-    let version = byte_offset(entry_position(start, entry_descriptor::VERSION));
     Head {
-        version: words::i32_at(order, file, version),
-        nsec: word4_at(order, file, start, entry_descriptor::NSEC),
-        nword: word8_at(order, file, start, entry_descriptor::NWORD),
-        adata: EntryAddress(word8_at(order, file, start, entry_descriptor::ADATA)),
-        ldata: word8_at(order, file, start, entry_descriptor::LDATA),
-        xnum: EntryNumber(word8_at(order, file, start, entry_descriptor::XNUM)),
+        version: word_at(order, file, start, entry_descriptor::VERSION),
+        nsec: word_at::<u32>(order, file, start, entry_descriptor::NSEC) as u64,
+        nword: word_at(order, file, start, entry_descriptor::NWORD),
+        adata: EntryAddress(word_at(order, file, start, entry_descriptor::ADATA)),
+        ldata: word_at(order, file, start, entry_descriptor::LDATA),
+        xnum: EntryNumber(word_at(order, file, start, entry_descriptor::XNUM)),
     }
 }
 

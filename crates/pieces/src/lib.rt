@@ -6,11 +6,13 @@
 #![tactic(auto)]
 
 mod contents;
+mod entry_words;
 mod head;
 mod spread;
 mod tables;
 
-pub use contents::{Piece, data_within, section_at};
+pub use contents::{Piece, data_within};
+pub use entry_words::EntryWords;
 pub use head::{Head, head_at};
-pub use spread::{Spread, data_apart, sections_apart, sections_spread};
-pub use tables::{Sections, identifier_at, no_sections, section_named, section_tables};
+pub use spread::Spread;
+pub use tables::{Sections, no_sections};
