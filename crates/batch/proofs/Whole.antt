@@ -7,6 +7,9 @@ use native.Mathlib.Omega.{arith}
 use borrow.Author.Tests.{eqb-true, eq-eqb, ne_eqb}
 use lib.Dec.{eqb}
 use lib.ListN.{length}
+use Rattle.outcome.specs.declared.refusal.Refusal.{Refusal}
+use Rattle.outcome.specs.Refusal.{number_of}
+use Rattle.outcome.proofs.Refusals.{number-positive}
 use Rattle.outcome.proofs.Either.{either}
 use Rattle.descriptor.specs.declared.validating.Validated.{Validated}
 use Rattle.descriptor.specs.declared.validating.Validated.TheVariants.{Refused}
@@ -16,7 +19,6 @@ use Rattle.descriptor.proofs.Refusals.{all_hold}
 use Rattle.writer.specs.Answers.{append_in}
 use Rattle.batch.specs.Batch.{Batch, entries_in}
 use Rattle.batch.specs.Rules.{batch_rules, batch_refusal}
-use Rattle.batch.specs.Cursor.{begun}
 use Rattle.batch.specs.Answers.{answer_in_turn, file_in_turn, batch_of, file_after_batch, AppendsBatch}
 use Rattle.batch.proofs.Entries.{entries_next, entries-done}
 
@@ -30,9 +32,9 @@ refused-some file n e =
 
 module _ (file : List ℕ) (b : Batch) where
   -- refused by its rules: the number, and the file as it was
-  pub refused : (n : ℕ) → n ≡ batch_refusal b → (n ≡ 0 → ⊥) → AppendsBatch file b (record { refusal = n; accepted = 0 }) file
+  pub refused : (r : Refusal) → number_of r ≡ batch_refusal b → AppendsBatch file b (record { refusal = number_of r; accepted = 0 }) file
   unfolding batch_of file_after_batch
-  refused n e some = rw (← e, ne_eqb n 0 some) (refl, refl)
+  refused r e = rw (← e, ne_eqb (number_of r) 0 (number-positive r)) (refl, refl)
 
   module _ (passed : batch_refusal b ≡ 0) where
     -- else its appends in turn
@@ -48,7 +50,7 @@ module _ (file : List ℕ) (b : Batch) where
     -- without an entry: neither a refusal nor an entry, whatever the file
     pub none : length b.versions ≡ 0 → AppendsBatch file b (record { refusal = 0; accepted = 0 }) file
     none h =
-        let empty = entries-done b 0 begun (omega (arith, h)) in
+        let empty = entries-done b 0 b.laid (omega (arith, h)) in
         (sym (in-turn ∙ ap (answer_in_turn 0 file) empty), sym (file-in-turn ∙ ap (file_in_turn file) empty))
 
     -- with entries and a file that is refused: the file's number, by the first
@@ -56,6 +58,6 @@ module _ (file : List ℕ) (b : Batch) where
     unfolding batch_refusal append_in
     file-refused some n e =
         let rules = all_hold (batch_rules b) (omega arith) passed in
-        let first = entries_next b 0 begun (omega (arith, some)) (eqb-true (length b.counts) (length b.versions) rules.1.0) in
+        let first = entries_next b 0 b.laid (omega (arith, some)) (eqb-true (length b.counts) (length b.versions) rules.1.0) in
         let stop = refused-some file n e in
         (sym (in-turn ∙ ap (answer_in_turn 0 file) first ∙ rw (e, stop)), sym (file-in-turn ∙ ap (file_in_turn file) first ∙ rw (e, stop)))

@@ -2,5 +2,4 @@
 pub mod Batch
 pub mod Rules
 pub mod Answers
-pub mod Cursor
-pub mod Turn
+pub mod Taking

@@ -4,13 +4,15 @@ ghost use Rattle.batch.specs.Answers.{AppendsBatch};
 
 use super::answers::Batched;
 use super::inner::append_in_turn;
+use super::new_entries::{Columns, NewEntries};
 use super::rules::batch_refusal;
 use descriptor::{Validated, refusal_of, validate};
 
 // Appends entries in turn, of which each kind is laid end to end with a row of counts for each entry:
 // index bytes, identifiers, lengths, section bytes, data bytes. The first refusal ends it, and the
 // entries before it stay. Refuses by 26 before all else where there are over 64 entries, not as many
-// rows as versions, or a column that does not use up its array, and then changes no byte.
+// rows as versions, or a column that does not use up its array, and then changes no byte. The columns are lent one by one, as C
+// has them.
 pub fn append_batch(
     file: &mut [u8],
     versions: &[i32],
@@ -23,10 +25,20 @@ pub fn append_batch(
 ) -> Batched
     ensures { AppendsBatch file.old (batch versions counts (laid index ids lengths sections values)) result file.new }
 {
-    let refusal = batch_refusal(versions, counts, index, ids, lengths, sections, values);
-    if refusal != 0 {
+    let entries = NewEntries {
+        versions,
+        counts,
+        columns: Columns {
+            index,
+            ids,
+            lengths,
+            sections,
+            values,
+        },
+    };
+    if let Err(refusal) = batch_refusal(&entries) {
         return Batched {
-            refusal,
+            refusal: refusal.number(),
             accepted: 0,
         };
     }
@@ -44,7 +56,5 @@ pub fn append_batch(
             accepted: 0,
         };
     };
-    append_in_turn(
-        d, file, versions, counts, index, ids, lengths, sections, values,
-    )
+    append_in_turn(d, file, &entries)
 }

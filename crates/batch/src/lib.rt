@@ -8,11 +8,12 @@
 
 mod answers;
 mod batching;
-mod cursor;
+mod counts;
 pub mod inner;
+mod new_entries;
 mod rules;
-mod turn;
 
 pub use answers::Batched;
 pub use batching::append_batch;
+pub use new_entries::{Columns, NewEntries};
 pub use rules::batch_refusal;

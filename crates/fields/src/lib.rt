@@ -5,6 +5,7 @@
 #![tactic(auto)]
 
 ghost use Rattle.std.specs.Prelude.{◌+◌, ◌*◌, ◌-◌, ◌^◌, ◌≤◌, ◌<◌, length};
+ghost use mir.Val.{bytes};
 ghost use Rattle.outcome.specs.Outcome.{Leaves};
 ghost use Rattle.image.specs.Image.{splice, zeros};
 ghost use Rattle.image.specs.Writes.{writes};
@@ -18,22 +19,14 @@ use descriptor::DescriptorNumbers;
 use geometry::{WordNumber, byte_offset, first_record_offset};
 use layout::file_code::file_code;
 use layout::first_record;
-use words::ByteOrder;
+use words::{ByteOrder, Integer};
 
-// Writes the Integer*4 at a word of the first record.
-pub fn put_field4(order: ByteOrder, file: &mut [u8], word: WordNumber, bits: u64)
-    requires { (1 ≤ word.0) × (word.0 ≤ 4096) × (4 * word.0 ≤ length file.old) × (bits < 2 ^ 32) }
-    ensures { Leaves (splice file.old (first_record_offset_of word) (numeral order 4 bits)) file.new }
+// Writes an integer at a word of the first record, and the words behind it that it fills.
+pub fn put_field<T: Integer>(order: ByteOrder, file: &mut [u8], word: WordNumber, value: T)
+    requires { (1 ≤ word.0) × (word.0 ≤ 4096) × (4 * (word.0 - 1) + bytes T.width ≤ length file.old) }
+    ensures { Leaves (splice file.old (first_record_offset_of word) (numeral order (bytes T.width) (T.bits value))) file.new }
 {
-    words::put_u32(order, file, first_record_offset(word), bits as u32)
-}
-
-// Writes the Integer*8 at a word of the first record and the next.
-pub fn put_field8(order: ByteOrder, file: &mut [u8], word: WordNumber, bits: u64)
-    requires { (1 ≤ word.0) × (word.0 ≤ 4096) × (4 * (word.0 + 1) ≤ length file.old) }
-    ensures { Leaves (splice file.old (first_record_offset_of word) (numeral order 8 bits)) file.new }
-{
-    words::put_u64(order, file, first_record_offset(word), bits)
+    words::write(order, file, first_record_offset(word), value)
 }
 
 // Writes the code of the order, and the settings that come first.
@@ -43,11 +36,11 @@ pub fn put_settings(file: &mut [u8], d: DescriptorNumbers)
 {
     let code = file_code(d.order);
     image::put(file, first_record_offset(first_record::CODE), &code);
-    put_field4(d.order, file, first_record::RECLEN, d.reclen);
-    put_field4(d.order, file, first_record::KIND, d.kind);
-    put_field4(d.order, file, first_record::VIND, d.vind);
-    put_field4(d.order, file, first_record::LIND, d.lind);
-    put_field4(d.order, file, first_record::FLAGS, d.flags);
+    put_field(d.order, file, first_record::RECLEN, d.reclen as u32);
+    put_field(d.order, file, first_record::KIND, d.kind as u32);
+    put_field(d.order, file, first_record::VIND, d.vind as u32);
+    put_field(d.order, file, first_record::LIND, d.lind as u32);
+    put_field(d.order, file, first_record::FLAGS, d.flags as u32);
 }
 
 // Writes how far the file is filled.
@@ -55,9 +48,9 @@ pub fn put_counts(file: &mut [u8], d: DescriptorNumbers)
     requires { (d.nextword.0 < 2 ^ 32) × (64 ≤ length file.old) }
     ensures { Leaves (writes file.old (count_writes d)) file.new }
 {
-    put_field8(d.order, file, first_record::XNEXT, d.xnext.0);
-    put_field8(d.order, file, first_record::NEXTREC, d.nextrec.0);
-    put_field4(d.order, file, first_record::NEXTWORD, d.nextword.0);
+    put_field(d.order, file, first_record::XNEXT, d.xnext.0);
+    put_field(d.order, file, first_record::NEXTREC, d.nextrec.0);
+    put_field(d.order, file, first_record::NEXTWORD, d.nextword.0 as u32);
 }
 
 // Makes the words of the first record behind the growth zero.
@@ -77,8 +70,8 @@ pub fn put_growth(file: &mut [u8], d: DescriptorNumbers)
     requires { Narrow d × (16 ≤ d.reclen) × (d.reclen ≤ 4096) × (4 * d.reclen ≤ length file.old) }
     ensures { Leaves (writes file.old (growth_writes d)) file.new }
 {
-    put_field4(d.order, file, first_record::LEX1, d.lex1);
-    put_field4(d.order, file, first_record::NEX, d.nex);
-    put_field4(d.order, file, first_record::GEX, d.gex);
+    put_field(d.order, file, first_record::LEX1, d.lex1 as u32);
+    put_field(d.order, file, first_record::NEX, d.nex as u32);
+    put_field(d.order, file, first_record::GEX, d.gex as u32);
     clear_rest(file, d.reclen);
 }

@@ -1,11 +1,13 @@
 -- What it is for a record to be the one that a file has: rule 27 holds exactly then, and the file validates with the record's numbers and addresses. Assumes nothing.
 use Prim.Native.Nat.{ℕ}
 use mathlib.Core.Path.{◌≡◌, refl, ap, ◌∙◌}
+use mathlib.Core.Bool.{cond, ◌&&◌}
 use mathlib.Core.List.{List}
 use native.Mathlib.Omega.{arith}
 use borrow.Author.Tests.{eqb-true, eqb-false, eq-eqb}
 use lib.Dec.{eqb}
 use lib.ListN.{get_or}
+use Rattle.std.proofs.Math.Bool.{and_assoc, and-true}
 use Rattle.outcome.proofs.Either.{either}
 use Rattle.words.specs.Code.{same_numbers}
 use Rattle.words.proofs.Codes.{same-equal, same_self}
@@ -24,7 +26,8 @@ use Rattle.held.specs.declared.answers.OpenFileAnswer.{OpenFileAnswer}
 use Rattle.geometry.specs.Totals.{totals_of}
 use Rattle.held.specs.Record.{open_file_with, open_file_in, open_file_of, TrueOf}
 use Rattle.held.specs.Rules.{fields_of, held_rules, held_refusal}
-use Rattle.held.proofs.Tables.{records-equal}
+use Rattle.held.specs.contracts.answers.OpenFilePartialEq.TheImpl as comparison
+use Rattle.held.proofs.Tables.{records-equal, numbers-compared, records-compared}
 
 -- numbers with the same fields are equal
 fields-equal : (d e : DescriptorNumbers) → fields_of d ≡ fields_of e → d ≡ e
@@ -65,6 +68,24 @@ unfolding held_refusal
 true-held file held t =
     let x = (open_file_of file).file in
     rw (t.same, eq-eqb (open_file_of file).refusal 0 t.admitted, same_self (fields_of x.numbers), same_self (record_numbers x.addresses), same_self x.totals)
+
+-- the derived comparison says whether two records have the same fields, addresses and totals
+compared : (one other : OpenFile)
+    → (comparison.ghosts).eq one other
+    ≡ (same_numbers (fields_of one.numbers) (fields_of other.numbers) && same_numbers (record_numbers one.addresses) (record_numbers other.addresses)
+    && same_numbers one.totals other.totals)
+unfolding same_numbers
+compared one other = simp (records-compared one.addresses other.addresses, numbers-compared one.totals other.totals, and_assoc, and-true)
+
+-- so 27 is given where a file is refused, or its record and the one that is lent do not compare as the same
+pub held-compared : (file : List ℕ) (held : OpenFile) → let x = open_file_of file in held_refusal file held ≡ cond (eqb x.refusal 0) (cond ((comparison.ghosts).eq held x.file) 0 27) 27
+unfolding held_refusal
+held-compared file held =
+    let x = open_file_of file in
+    rw (compared held x.file)
+    (either (same_numbers (fields_of held.numbers) (fields_of x.file.numbers))
+    (λ q. either (same_numbers (record_numbers held.addresses) (record_numbers x.file.addresses)) (λ r. rw (q, r)) (λ r. rw (q, r)))
+    (λ q. rw q))
 
 -- else it is given
 pub held-27 : (file : List ℕ) (held : OpenFile) → (held_refusal file held ≡ 0 → ⊥) → held_refusal file held ≡ 27

@@ -6,7 +6,6 @@
 #![tactic(auto)]
 
 mod answers;
-mod comparing;
 pub mod inner;
 mod opening;
 mod rules;

@@ -4,20 +4,16 @@ ghost use Rattle.held.specs.Record.{no_open_file, open_file_of};
 
 use super::answers::{OpenFile, OpenFileAnswer};
 use descriptor::inner::{addresses_of, admit};
-use descriptor::{Validated, no_numbers, refusal_of};
-use geometry::RecordNumber;
+use descriptor::{Validated, refusal_of};
 
 // A refusal, with a record of zeros.
 fn no_open_file(refusal: u32) -> OpenFileAnswer
     ensures { Answers (no_open_file refusal) result }
 {
-    let numbers = no_numbers();
-    let file = OpenFile {
-        numbers,
-        addresses: [RecordNumber(0); 16],
-        totals: [0; 16],
-    };
-    OpenFileAnswer { refusal, file }
+    OpenFileAnswer {
+        refusal,
+        file: OpenFile::default(),
+    }
 }
 
 // The record of a file, or the first rule of 1 to 11 and 29 that the file breaks.

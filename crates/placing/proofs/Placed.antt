@@ -1,11 +1,10 @@
 -- What rules 23 and 24 leave once they are passed, and the place of an entry by their refusal. Assumes nothing.
 use Prim.Native.Nat.{ℕ, ◌+◌, ◌/◌, ◌≤◌, ◌<◌}
-use mathlib.Core.Path.{◌≡◌, sym}
+use mathlib.Core.Path.{◌≡◌, sym, ◌∙◌}
 use mathlib.Core.Bool.{cond}
 use native.Mathlib.Omega.{arith}
-use borrow.Author.Tests.{leb-true, ltb-true, le-leb, lt-leb, eqb-true, eq-eqb, ne_eqb}
+use borrow.Author.Tests.{leb-true, ltb-true, le-leb, lt-leb, ne_eqb}
 use lib.Dec.{leb, eqb}
-use Rattle.outcome.proofs.Either.{either}
 use Rattle.geometry.specs.Growth.{capacity_of}
 use Rattle.descriptor.specs.declared.numbers.DescriptorNumbers.{DescriptorNumbers}
 use Rattle.descriptor.specs.FirstRecord.{mex_of, growth_in}
@@ -13,7 +12,6 @@ use Rattle.descriptor.specs.Refusal.{AllHold}
 use Rattle.descriptor.proofs.Refusals.{all_hold, hold-split, refusal-append}
 use Rattle.placing.specs.Placing.{entry_start}
 use Rattle.placing.specs.Rules.{extension_rules, space_rules, placement_rules, extension_refusal, placement_refusal}
-use Rattle.placing.specs.Placement.{placed_at, unplaced, placement_of}
 use Rattle.placing.specs.Bounds.{Extensible, Placed}
 
 module _ (d : DescriptorNumbers) where
@@ -43,28 +41,13 @@ module _ (d : DescriptorNumbers) where
         record { extensible = rows-extensible a.0; inside = leb-true (entry_start d + nword) (bytes / 4) a.1.0 }
 
     -- refused by 23
-    pub place-unextended : (extension_refusal d ≡ 0 → ⊥) → placement_of bytes d nword ≡ unplaced (extension_refusal d)
-    unfolding placement_of
-    place-unextended n = rw (refusal-parts, ne_eqb (extension_refusal d) 0 n, ne_eqb (extension_refusal d) 0 n)
+    pub place-unextended : {n : ℕ} → n ≡ extension_refusal d → (n ≡ 0 → ⊥) → n ≡ placement_refusal bytes d nword
+    place-unextended {n} e z = let o = ne_eqb n 0 z in e ∙ sym (refusal-parts ∙ rw (← e, o))
 
     -- refused by 24
-    pub place-outside : extension_refusal d ≡ 0 → bytes / 4 < entry_start d + nword → placement_of bytes d nword ≡ unplaced 24
-    unfolding placement_of
+    pub place-outside : extension_refusal d ≡ 0 → bytes / 4 < entry_start d + nword → placement_refusal bytes d nword ≡ 24
     place-outside e l = rw (refusal-parts, e, lt-leb (entry_start d + nword) (bytes / 4) l)
 
     -- accepted
-    pub place-given : extension_refusal d ≡ 0 → entry_start d + nword ≤ bytes / 4 → placement_of bytes d nword ≡ placed_at d
-    unfolding placement_of
+    pub place-given : extension_refusal d ≡ 0 → entry_start d + nword ≤ bytes / 4 → placement_refusal bytes d nword ≡ 0
     place-given e l = rw (refusal-parts, e, le-leb (entry_start d + nword) (bytes / 4) l)
-
-    -- the refusal of the place is that of the rules
-    pub place-refusal : (placement_of bytes d nword).refusal ≡ placement_refusal bytes d nword
-    unfolding placement_of
-    place-refusal =
-        let n = placement_refusal bytes d nword in
-        either (eqb n 0) (λ q. rw q (sym (eqb-true n 0 q))) (λ q. rw q)
-
-    -- and where they are passed it is the place that they admit
-    pub place-stands : placement_refusal bytes d nword ≡ 0 → placement_of bytes d nword ≡ placed_at d
-    unfolding placement_of
-    place-stands e = rw (eq-eqb (placement_refusal bytes d nword) 0 e)

@@ -8,37 +8,26 @@ use descriptor::DescriptorNumbers;
 use geometry::{EntryNumber, place_at};
 
 // The extensions in use after an append.
+#[tactic(auto, unfolding(crate::specs::Placing::nex_after))]
 fn nex_after(d: DescriptorNumbers, extends: bool) -> u64
     requires { (d.nex ≤ 16) × (extends ≡ full d) }
     ensures { Answers (nex_after d) result }
 {
-    if extends {
-        return d.nex + 1;
-    }
-    d.nex
+    if extends { d.nex + 1 } else { d.nex }
 }
 
 // The numbers after an append whose entry ends at a position.
+#[tactic(auto, unfolding(crate::specs::Placing::numbers_after))]
 pub fn numbers_after(d: DescriptorNumbers, extends: bool, end: u64) -> DescriptorNumbers
     requires { Settled d × (d.xnext.0 < 2 ^ 63) × (extends ≡ full d) × (end < 2 ^ 32) }
     ensures { Answers (numbers_after d end) result }
 {
     let next = place_at(d.reclen, end);
-    let nextrec = next.record;
-    let nextword = next.word;
-    let order = d.order;
     DescriptorNumbers {
-        order,
-        reclen: d.reclen,
-        kind: d.kind,
-        vind: d.vind,
-        lind: d.lind,
-        flags: d.flags,
         xnext: EntryNumber(d.xnext.0 + 1),
-        nextrec,
-        nextword,
-        lex1: d.lex1,
+        nextrec: next.record,
+        nextword: next.word,
         nex: nex_after(d, extends),
-        gex: d.gex,
+        ..d
     }
 }

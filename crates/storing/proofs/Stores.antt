@@ -1,14 +1,12 @@
 -- What an accepted append at its place gives to each step of storing. Assumes nothing.
 use Prim.Native.Nat.{ℕ, ◌+◌, ◌*◌, ◌^◌, ◌≤◌, ◌<◌}
-use mathlib.Core.Path.{◌≡◌, refl, sym, ap, ◌∙◌}
+use mathlib.Core.Path.{◌≡◌, refl, ap, ◌∙◌}
 use mathlib.Core.List.{List}
 use native.Mathlib.Omega.{arith}
-use lib.IntN.{ℤ}
 use lib.ListN.{length}
 use Rattle.geometry.specs.declared.units.EntryAddress.{EntryAddress}
 use Rattle.geometry.specs.Units.{place_of}
 use Rattle.geometry.proofs.Positions.{place-word}
-use Rattle.layout.specs.FileCode.{byte_order_of}
 use Rattle.layout.specs.EntryWords.{first_content}
 use Rattle.descriptor.specs.declared.numbers.DescriptorNumbers.{DescriptorNumbers}
 use Rattle.descriptor.specs.FirstRecord.{addresses_of}
@@ -16,12 +14,10 @@ use Rattle.pieces.specs.EntryDescriptor.{word_offset}
 use Rattle.entry.specs.Opening.{slot_position_of}
 use Rattle.placing.specs.declared.placement.Placement.{Placement}
 use Rattle.placing.specs.Placing.{full, entry_start, numbers_after, addresses_after}
-use Rattle.placing.specs.Placement.{placed_at}
 use Rattle.pieces.specs.declared.head.Head.{Head}
-use Rattle.storing.specs.Handed.{Handed, handed_in, nsec_in, nword_in}
-use Rattle.storing.specs.Writing.{head_of}
+use Rattle.storing.specs.Handed.{Handed, nsec_in, nword_in}
 use Rattle.storing.specs.Bounds.{Describing, Accepted, Storing}
-use Rattle.storing.proofs.Accepting.{head-nword, head-version, head-nsec, value-bytes, entry-within, entry-small, slot-before}
+use Rattle.storing.proofs.Accepting.{head-nword, head-nsec, value-bytes, entry-within, entry-small, slot-before}
 
 module _ (file : List ℕ) (d : DescriptorNumbers) (placed : Placement) (head : Head) (h : Handed) (q : Storing file d placed head h) where
   abbrev x : Accepted (length file) d (addresses_of file d.nex) h
@@ -100,16 +96,3 @@ module _ (file : List ℕ) (d : DescriptorNumbers) (placed : Placement) (head : 
   word_small =
       let s = x.admitted.settled in
       omega (arith, place-word d.reclen placed.start (omega (arith, s.reclen-low)), s.reclen-high)
-
--- what is handed in with the version of a head
-abbrev pub versioned : Handed → Head → Handed
-versioned h head = handed_in head.version h.index h.ids h.lengths h.sections h.values
-
--- an accepted append to a file of its numbers, at its place with its head, may be stored
-pub storing : (file : List ℕ) (d : DescriptorNumbers) (placed : Placement) (head : Head) (h : Handed) → d.order ≡ byte_order_of file
-    → Accepted (length file) d (addresses_of file d.nex) h → placed ≡ placed_at d → head ≡ head_of h d.xnext
-    → Storing file d placed head (versioned h head)
-storing file d placed head h o x e f =
-    let same = ap (λ (r : Head). r.version) f ∙ head-version h d.xnext in
-    let with : ℤ → Handed = λ (v : ℤ). handed_in v h.index h.ids h.lengths h.sections h.values in
-    record { order = o; accepted = rw same x; stands = e; headed = f ∙ ap (λ (v : ℤ). head_of (with v) d.xnext) (sym same) }

@@ -7,6 +7,7 @@ use Rattle.words.specs.Word.{integer4}
 use Rattle.words.specs.Range.{at_least}
 use Rattle.layout.specs.EntryWords.{descriptor_words}
 use Rattle.pieces.specs.Tables.{same_integer}
+use Rattle.storing.specs.declared.new_entry.NewEntry.{NewEntry}
 
 -- version, index words, identifiers, lengths, section bytes one after another, and data
 pub record Handed : Type 0 where
@@ -78,3 +79,7 @@ Slice A = Both (Bor (List A)) (Bor (List A))
 abbrev pub handed : ℤ → Slice ℕ → Slice ℤ → Slice ℤ → Slice ℕ → Slice ℕ → Handed
 handed version index ids lengths sections values =
     handed_in version index.entry.now ids.entry.now lengths.entry.now sections.entry.now values.entry.now
+
+-- and as a new entry of which a function is lent the slices
+abbrev pub handed_of : NewEntry → Handed
+handed_of e = handed_in e.version e.index.now e.ids.now e.lengths.now e.sections.now e.values.now

@@ -10,7 +10,7 @@ ghost use Rattle.storing.specs.AsMade.{clear, clear_around, extension_writes, re
 
 use descriptor::DescriptorNumbers;
 use descriptor::inner::free_position;
-use fields::{put_field4, put_field8};
+use fields::put_field;
 use geometry::{ExtensionNumber, RecordNumber, WordNumber, byte_offset, position};
 use layout::first_record;
 use layout::first_record::aex_word;
@@ -38,9 +38,9 @@ fn put_extension(file: &mut [u8], d: DescriptorNumbers, area: RecordNumber)
     requires { (area ≡ new_area d) × (d.nex < 16) × (64 + 8 * d.nex ≤ length file.old) }
     ensures { Leaves (writes file.old (extension_writes d)) file.new }
 {
-    put_field4(d.order, file, first_record::NEX, d.nex + 1);
+    put_field(d.order, file, first_record::NEX, (d.nex + 1) as u32);
     let word = aex_word(ExtensionNumber(d.nex + 1));
-    put_field8(d.order, file, word, area.0);
+    put_field(d.order, file, word, area.0);
 }
 
 // Makes the rest of the new index area, where one is needed for the entry at `start`.

@@ -1,5 +1,6 @@
 // The head of a new entry: its numbers, and writing its words.
-ghost use Rattle.std.specs.Prelude.{cond, ◌+◌, ◌*◌, ◌^◌, ◌≤◌, ◌<◌, length, eqb};
+ghost use Rattle.std.specs.Prelude.{cond, ◌+◌, ◌-◌, ◌*◌, ◌^◌, ◌≤◌, ◌<◌, length, eqb};
+ghost use mir.Val.{bytes};
 ghost use Rattle.outcome.specs.Outcome.{Answers, Leaves};
 ghost use Rattle.image.specs.Image.{splice};
 ghost use Rattle.image.specs.Writes.{writes};
@@ -12,7 +13,7 @@ use geometry::{EntryAddress, EntryNumber, byte_offset, entry_position};
 use layout::entry_descriptor;
 use layout::entry_descriptor::{descriptor_words, first_content};
 use pieces::Head;
-use words::ByteOrder;
+use words::{ByteOrder, Integer};
 
 // The address of the data behind sections of so many words, 0 without data.
 fn adata_of(nsec: u64, section_words: u64, ldata: u64) -> EntryAddress
@@ -26,6 +27,7 @@ fn adata_of(nsec: u64, section_words: u64, ldata: u64) -> EntryAddress
 }
 
 // The head of an entry with so many sections, words of sections and words of data.
+#[tactic(auto, unfolding(crate::specs::Writing::head_from))]
 pub fn head_of(version: i32, nsec: u64, section_words: u64, ldata: u64, number: EntryNumber) -> Head
     requires { (nsec ≤ sections_max) × (section_words < 2 ^ 62) × (ldata < 2 ^ 62) }
     ensures { Answers (head_from version nsec section_words ldata number) result }
@@ -40,16 +42,22 @@ pub fn head_of(version: i32, nsec: u64, section_words: u64, ldata: u64, number: 
     }
 }
 
-// Writes the Integer*8 at a word of the entry and the next.
-fn put_word8(order: ByteOrder, file: &mut [u8], start: u64, address: EntryAddress, bits: u64)
-    requires { (1 ≤ address.0) × (start + address.0 < 2 ^ 32) × (4 * (start + address.0 + 1) ≤ length file.old) }
-    ensures { Leaves (splice file.old (word_offset start address) (numeral order 8 bits)) file.new }
+// Writes an integer at a word of the entry, and the words behind it that it fills.
+fn put_word<T: Integer>(
+    order: ByteOrder,
+    file: &mut [u8],
+    start: u64,
+    address: EntryAddress,
+    value: T,
+)
+    requires { (1 ≤ address.0) × (start + address.0 < 2 ^ 32) × (4 * (start + address.0 - 1) + bytes T.width ≤ length file.old) }
+    ensures { Leaves (splice file.old (word_offset start address) (numeral order (bytes T.width) (T.bits value))) file.new }
 {
-    words::put_u64(
+    words::write(
         order,
         file,
         byte_offset(entry_position(start, address)),
-        bits,
+        value,
     )
 }
 
@@ -64,20 +72,10 @@ pub(crate) fn put_head(order: ByteOrder, file: &mut [u8], start: u64, head: Head
         byte_offset(entry_position(start, entry_descriptor::CODE)),
         &code,
     );
-    words::put_i32(
-        order,
-        file,
-        byte_offset(entry_position(start, entry_descriptor::VERSION)),
-        head.version,
-    );
-    words::put_u32(
-        order,
-        file,
-        byte_offset(entry_position(start, entry_descriptor::NSEC)),
-        head.nsec as u32,
-    );
-    put_word8(order, file, start, entry_descriptor::NWORD, head.nword);
-    put_word8(order, file, start, entry_descriptor::ADATA, head.adata.0);
-    put_word8(order, file, start, entry_descriptor::LDATA, head.ldata);
-    put_word8(order, file, start, entry_descriptor::XNUM, head.xnum.0);
+    put_word(order, file, start, entry_descriptor::VERSION, head.version);
+    put_word(order, file, start, entry_descriptor::NSEC, head.nsec as u32);
+    put_word(order, file, start, entry_descriptor::NWORD, head.nword);
+    put_word(order, file, start, entry_descriptor::ADATA, head.adata.0);
+    put_word(order, file, start, entry_descriptor::LDATA, head.ldata);
+    put_word(order, file, start, entry_descriptor::XNUM, head.xnum.0);
 }

@@ -6,11 +6,13 @@
 
 mod area;
 mod head;
+mod new_entry;
 mod steps;
 mod storing;
 mod tables;
 
 pub use area::put_rest;
 pub use head::head_of;
+pub use new_entry::NewEntry;
 pub use steps::{put_content, put_descriptor};
 pub use storing::store;

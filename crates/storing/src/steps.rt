@@ -42,7 +42,8 @@ pub fn put_descriptor(
     put_tables(order, file, start, ids, lengths);
 }
 
-// Writes the sections and the data of the entry, from a word of it on.
+// Writes the sections and the data of the entry, from a word of it on. It takes these two slices and no entry, because they may come from
+// elsewhere.
 pub fn put_content(file: &mut [u8], start: u64, first: EntryAddress, sections: &[u8], values: &[u8])
     requires { (1 ≤ first.0) × (start + first.0 < 2 ^ 32) × (word_offset start first + length sections.now + length values.now ≤ length file.old) }
     ensures { Leaves (writes file.old (pieces_writes start first sections.now values.now)) file.new }
@@ -72,7 +73,7 @@ pub(crate) fn put_slot(order: ByteOrder, file: &mut [u8], slot: u64, place: Plac
     requires { (slot < 2 ^ 32) × (place.word.0 < 2 ^ 32) × (4 * (slot + 3) + length index.now ≤ length file.old) }
     ensures { Leaves (writes file.old (slot_writes order slot place index.now)) file.new }
 {
-    words::put_u64(order, file, byte_offset(slot), place.record.0);
-    words::put_u32(order, file, byte_offset(slot + 2), place.word.0 as u32);
+    words::write(order, file, byte_offset(slot), place.record.0);
+    words::write(order, file, byte_offset(slot + 2), place.word.0 as u32);
     image::put(file, byte_offset(slot + 3), index);
 }

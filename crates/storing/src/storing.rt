@@ -3,11 +3,12 @@ ghost use Rattle.outcome.specs.Outcome.{Leaves};
 ghost use Rattle.image.specs.Writes.{writes};
 ghost use Rattle.descriptor.specs.FirstRecord.{addresses_of};
 ghost use Rattle.descriptor.specs.Bounds.{TotalsOf};
-ghost use Rattle.storing.specs.Handed.{handed_in, handed};
+ghost use Rattle.storing.specs.Handed.{handed_of};
 ghost use Rattle.storing.specs.AsMade.{store_writes};
 ghost use Rattle.storing.specs.Bounds.{Storing};
 
 use super::area::put_rest;
+use super::new_entry::NewEntry;
 use super::steps::{new_slot, put_content, put_descriptor, put_slot};
 use descriptor::DescriptorNumbers;
 use fields::put_counts;
@@ -24,25 +25,27 @@ pub fn store(
     placed: Placement,
     totals: &[u64],
     head: Head,
-    index: &[u8],
-    ids: &[i32],
-    lengths: &[i64],
-    sections: &[u8],
-    values: &[u8],
+    entry: &NewEntry,
 )
-    requires { Storing file.old d placed head (handed_in head.version index.now ids.now lengths.now sections.now values.now) × TotalsOf d totals.now }
-    ensures { Leaves (writes file.old (store_writes d (addresses_of file.old d.nex) placed head (handed head.version index ids lengths sections values))) file.new }
+    requires { Storing file.old d placed head (handed_of entry.now) × TotalsOf d totals.now }
+    ensures { Leaves (writes file.old (store_writes d (addresses_of file.old d.nex) placed head (handed_of entry.now))) file.new }
 {
     let slot = new_slot(file, d, placed.extends, totals);
-    put_descriptor(d.order, file, placed.start, head, ids, lengths);
+    put_descriptor(d.order, file, placed.start, head, entry.ids, entry.lengths);
     put_content(
         file,
         placed.start,
         first_content(head.nsec),
-        sections,
-        values,
+        entry.sections,
+        entry.values,
     );
-    put_slot(d.order, file, slot, place_at(d.reclen, placed.start), index);
+    put_slot(
+        d.order,
+        file,
+        slot,
+        place_at(d.reclen, placed.start),
+        entry.index,
+    );
     put_rest(file, d, placed.extends, placed.start);
     put_counts(
         file,

@@ -18,16 +18,8 @@ fn put_identifiers(order: ByteOrder, file: &mut [u8], position: u64, ids: &[i32]
     requires { (position < 2 ^ 32) × (length ids.now ≤ sections_max) × (4 * (position + length ids.now) ≤ length file.old) }
     ensures { Leaves (splice file.old (offset_of position) (identifier_bytes order ids.now)) file.new }
 {
-    let mut done = 0;
-    while done < ids.len() {
-        let identifier = ids[done];
-        words::put_i32(
-            order,
-            file,
-            byte_offset(position + (done as u64)),
-            identifier,
-        );
-        done += 1;
+    for (i, identifier) in ids.iter().enumerate() {
+        words::write(order, file, byte_offset(position + i as u64), *identifier);
     }
 }
 
@@ -37,7 +29,7 @@ fn put_length(order: ByteOrder, file: &mut [u8], position: u64, lengths: &[i64],
     ensures { Leaves (splice file.old (offset_of position + 8 * i) (signed_numeral order integer8 (get_or lengths.now i (pos 0)))) file.new }
 {
     let words = lengths[i];
-    words::put_i64(order, file, byte_offset(position + 2 * (i as u64)), words)
+    words::write(order, file, byte_offset(position + 2 * (i as u64)), words)
 }
 
 // Writes lengths one after another from a position on. A turn writes two: so the compiler turns those of a big-endian file one
@@ -46,14 +38,13 @@ fn put_lengths(order: ByteOrder, file: &mut [u8], position: u64, lengths: &[i64]
     requires { (position < 2 ^ 32) × (length lengths.now ≤ sections_max) × (4 * (position + 2 * length lengths.now) ≤ length file.old) }
     ensures { Leaves (splice file.old (offset_of position) (length_bytes order lengths.now)) file.new }
 {
-    let mut done = 0;
-    while done + 1 < lengths.len() {
-        put_length(order, file, position, lengths, done);
-        put_length(order, file, position, lengths, done + 1);
-        done += 2;
+    for pair in 0..lengths.len() / 2 {
+        put_length(order, file, position, lengths, 2 * pair);
+        put_length(order, file, position, lengths, 2 * pair + 1);
     }
-    if done < lengths.len() {
-        put_length(order, file, position, lengths, done);
+    let odd = lengths.len() % 2 == 1;
+    if odd {
+        put_length(order, file, position, lengths, lengths.len() - 1);
     }
 }
 
@@ -71,16 +62,9 @@ fn put_addresses(
     ensures { Leaves (splice file.old (offset_of position) (address_bytes order first lengths.now)) file.new }
 {
     let mut address = first.0;
-    let mut done = 0;
-    while done < lengths.len() {
-        words::put_u64(
-            order,
-            file,
-            byte_offset(position + 2 * (done as u64)),
-            address,
-        );
-        address += words::bits64(lengths[done]);
-        done += 1;
+    for (i, words) in lengths.iter().enumerate() {
+        words::write(order, file, byte_offset(position + 2 * i as u64), address);
+        address += words.cast_unsigned();
     }
 }
 

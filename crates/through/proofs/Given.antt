@@ -3,7 +3,10 @@ use Prim.Native.Nat.{ℕ}
 use mathlib.Core.Path.{◌≡◌, sym, ap, subst, ◌∙◌}
 use mathlib.Core.List.{List}
 use lib.ListN.{length}
+use Rattle.std.specs.Prelude.{Result}
+use Rattle.outcome.specs.declared.refusal.Refusal.{Refusal}
 use Rattle.geometry.specs.declared.units.RecordNumber.{RecordNumber}
+use Rattle.geometry.specs.declared.units.EntryNumber.{EntryNumber}
 use Rattle.descriptor.specs.declared.numbers.DescriptorNumbers.{DescriptorNumbers}
 use Rattle.descriptor.specs.declared.validating.Validation.{Validation}
 use Rattle.descriptor.specs.Answers.{Validates}
@@ -14,7 +17,8 @@ use Rattle.handing.specs.declared.place.PartPlace.{PartPlace}
 use Rattle.handing.specs.Parts.{section_part, part_in}
 use Rattle.storing.specs.Handed.{Handed}
 use Rattle.writer.specs.declared.answers.Appended.{Appended}
-use Rattle.writer.specs.Answers.{appended_from, file_from, append_of, file_after, AppendsFrom}
+use Rattle.writer.specs.Answers.{answer_of, appended_from, file_from, append_of, file_after, AppendsFrom}
+use Rattle.writer.proofs.ByRefusal.{given-answer}
 use Rattle.written.proofs.ReadBack.{shows}
 use Rattle.batch.specs.declared.answers.Batched.{Batched}
 use Rattle.batch.specs.Batch.{Batch, entries_in}
@@ -84,10 +88,10 @@ module _ (file : List ℕ) (held : OpenFile) (z : held_refusal file held ≡ 0) 
 
   -- ---- an append from them
 
-  module _ (h : Handed) (r : Appended) (last : List ℕ) (m : AppendsFrom file d h r last) where
+  module _ (h : Handed) (outcome : Result EntryNumber Refusal) (last : List ℕ) (m : AppendsFrom file d h outcome last) where
     -- it answers as one to the file does
-    answered : r ≡ append_of file h
-    answered = m.0 ∙ ap (λ (x : DescriptorNumbers). appended_from (length file) x h) numbers-there ∙ sym (answer-from file h passed)
+    answered : answer_of outcome ≡ append_of file h
+    answered = given-answer file d h outcome m.0 ∙ ap (λ (x : DescriptorNumbers). appended_from (length file) x h) numbers-there ∙ sym (answer-from file h passed)
 
     -- and leaves the same file
     left-file : last ≡ file_after file h
@@ -98,11 +102,11 @@ module _ (file : List ℕ) (held : OpenFile) (z : held_refusal file held ≡ 0) 
     append-grown = rw left-file (grown file (file_after file h) held true-there (append-grows file h passed))
 
     -- it gives the append through the record, with the record of that file
-    pub append-given : {after : OpenFile} → after ≡ (open_file_of last).file → Gives (append_through file held h) r after last
+    pub append-given : {after : OpenFile} → after ≡ (open_file_of last).file → Gives (append_through file held h) (answer_of outcome) after last
     append-given k = given-leaving (append-done file held z h) answered (k ∙ ap (λ (f : List ℕ). (open_file_of f).file) left-file) left-file
 
     -- refused, with the record as it was
-    pub append-undone : (r.refusal ≡ 0 → ⊥) → Gives (append_through file held h) r held last
+    pub append-undone : ((answer_of outcome).refusal ≡ 0 → ⊥) → Gives (append_through file held h) (answer_of outcome) held last
     append-undone some =
         let same = left-file ∙ kept_from file h passed (λ q. some (ap (λ (x : Appended). x.refusal) answered ∙ q)) in
         append-given (true-there.same ∙ ap (λ (f : List ℕ). (open_file_of f).file) (sym same))

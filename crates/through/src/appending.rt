@@ -5,10 +5,12 @@ ghost use Rattle.through.specs.Answers.{AppendsThrough};
 use super::keeping::kept_true;
 use geometry::EntryNumber;
 use held::{OpenFile, held_refusal};
+use storing::NewEntry;
 use writer::Appended;
 use writer::inner::append_from;
 
-// The answer of `append_through`: the record as it is afterwards, and what `append` answers.
+// The answer of `append_through`: the record as it is afterwards, and what `append` answers. The record is given back also where
+// the append is refused, so this is no Result.
 #[derive(Clone, Copy)]
 pub struct AppendedThrough {
     pub held: OpenFile,
@@ -39,20 +41,22 @@ pub fn append_through(
             },
         };
     }
-    let d = held.numbers;
+    let entry = NewEntry {
+        version,
+        index,
+        ids,
+        lengths,
+        sections,
+        values,
+    };
     let totals = held.totals;
-    let appended = append_from(
-        d, &totals, file, version, index, ids, lengths, sections, values,
-    );
-    if appended.refusal != 0 {
-        return AppendedThrough {
-            held,
-            answer: appended,
-        };
+    let answer = Appended::from(append_from(held.numbers, &totals, file, &entry));
+    if answer.refusal != 0 {
+        return AppendedThrough { held, answer };
     }
     let after = kept_true(file, held);
     AppendedThrough {
         held: after,
-        answer: appended,
+        answer,
     }
 }

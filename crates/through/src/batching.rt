@@ -5,10 +5,11 @@ ghost use Rattle.through.specs.Answers.{batched_none, AppendsBatchThrough};
 
 use super::keeping::kept_true;
 use batch::inner::append_in_turn;
-use batch::{Batched, batch_refusal};
+use batch::{Batched, Columns, NewEntries, batch_refusal};
 use held::{OpenFile, held_refusal};
 
-// The answer of `append_batch_through`: the record as it is afterwards, and what `append_batch` answers.
+// The answer of `append_batch_through`: the record as it is afterwards, and what `append_batch` answers. The record is given back
+// also where the batch is refused, so this is no Result.
 #[derive(Clone, Copy)]
 pub struct BatchedThrough {
     pub held: OpenFile,
@@ -44,21 +45,28 @@ pub fn append_batch_through(
 ) -> BatchedThrough
     ensures { AppendsBatchThrough file.old held (batch versions counts (laid index ids lengths sections values)) result file.new }
 {
-    let counted = batch_refusal(versions, counts, index, ids, lengths, sections, values);
-    if counted != 0 {
-        return refused(held, counted);
+    let entries = NewEntries {
+        versions,
+        counts,
+        columns: Columns {
+            index,
+            ids,
+            lengths,
+            sections,
+            values,
+        },
+    };
+    if let Err(counted) = batch_refusal(&entries) {
+        return refused(held, counted.number());
     }
     let refusal = held_refusal(file, held);
     if refusal != 0 {
         return refused(held, refusal);
     }
-    let d = held.numbers;
-    let batched = append_in_turn(
-        d, file, versions, counts, index, ids, lengths, sections, values,
-    );
+    let answer = append_in_turn(held.numbers, file, &entries);
     let after = kept_true(file, held);
     BatchedThrough {
         held: after,
-        answer: batched,
+        answer,
     }
 }

@@ -7,7 +7,8 @@ use handing::inner::section_part;
 use held::{OpenFile, held_refusal};
 use update::inner::update_at;
 
-// The answer of `update_through`: the record as it is afterwards, and what `update_section` answers.
+// The answer of `update_through`: the record as it is afterwards, and what `update_section` answers. The record is given back also
+// where the update is refused, so this is no Result.
 #[derive(Clone, Copy)]
 pub struct UpdatedThrough {
     pub held: OpenFile,

@@ -17,7 +17,8 @@ fn rewrite(file: &mut [u8], start: usize, space: usize, content: &[u8])
     image::zero(file, start + content.len(), space - content.len());
 }
 
-// Rewrites the section at a place: refuses as the place does, then by 28, and then changes no byte.
+// Rewrites the section at a place: refuses as the place does, then by 28, and then changes no byte. The answer is a number, since
+// the refusal of a place is one, and is handed on as it is.
 pub fn update_at(file: &mut [u8], place: PartPlace, content: &[u8]) -> u32
     requires { Writable (length file.old) place }
     ensures { UpdatesAt file.old place content.now result file.new }
@@ -27,10 +28,11 @@ pub fn update_at(file: &mut [u8], place: PartPlace, content: &[u8]) -> u32
     }
     let start = place.start;
     let space = place.end - start;
-    let refusal = content_refusal(content.len(), space);
-    if refusal != 0 {
-        return refusal;
+    match content_refusal(content.len(), space) {
+        Err(refusal) => refusal.number(),
+        Ok(()) => {
+            rewrite(file, start, space, content);
+            0
+        }
     }
-    rewrite(file, start, space, content);
-    0
 }

@@ -1,19 +1,16 @@
-// The rules of new content, all numbered 28, tested in the order of their table.
-ghost use Rattle.outcome.specs.Outcome.{Answers};
+// The rules of new content, all numbered 28.
+ghost use Rattle.outcome.specs.Refusal.{Refuses};
 ghost use Rattle.update.specs.Rules.{content_refusal};
 
-// 28 where content of so many bytes is empty, not whole words, or larger than the space; else 0.
-pub(crate) fn content_refusal(bytes: usize, space: usize) -> u32
-    ensures { Answers (content_refusal bytes space) result }
+use outcome::Refusal;
+
+// Refuses content of so many bytes that is empty, not whole words, or larger than the space.
+#[tactic(auto, using(std::proofs::lemmas::Bool::Decides::nat_tests), unfolding(crate::specs::Rules::content_refusal))]
+pub(crate) fn content_refusal(bytes: usize, space: usize) -> Result<(), Refusal>
+    ensures { Refuses (content_refusal bytes space) result }
 {
-    if bytes < 1 {
-        return 28;
+    if bytes < 1 || bytes % 4 != 0 || space < bytes {
+        return Err(Refusal::UpdateContent);
     }
-    if bytes % 4 != 0 {
-        return 28;
-    }
-    if space < bytes {
-        return 28;
-    }
-    0
+    Ok(())
 }

@@ -9,7 +9,7 @@ use handing::inner::section_part;
 
 // Writes new content to the first section of an entry that has the identifier, and zeros over the rest
 // of the space that its length field gives it; the length field stays. Refuses by the first rule of 1 to
-// 11, 29, 12 to 20 and 28 that is broken, and then changes no byte.
+// 11, 29, 12 to 20 and 28 that is broken, and then changes no byte. C has no Result, so the answer is the number, 0 when accepted.
 pub fn update_section(file: &mut [u8], number: EntryNumber, identifier: i32, content: &[u8]) -> u32
     ensures { Updates file.old (update_in number identifier content.now) result file.new }
 {

@@ -31,7 +31,7 @@ use Rattle.pieces.specs.EntryDescriptor.{section_of}
 use Rattle.pieces.specs.Contents.{apart, data_apart}
 use Rattle.pieces.specs.Tables.{section_named}
 use Rattle.pieces.proofs.Pieces.{Placed, section-placed, data-placed, apart-run, sections-run}
-use Rattle.entry.specs.declared.entered.Entered.{Entered}
+use Rattle.entry.specs.Entered.{Entered}
 use Rattle.entry.specs.Opening.{slot_position_of, place_stored, entry_refusal, entered_at, entered_of, end_of}
 use Rattle.entry.proofs.Entering.{Opens, entry-opens, entered-numbers, entered-refusal}
 use Rattle.handing.specs.Parts.{words_from, piece_from, index_part, section_part, data_part, part_in, bytes_of}

@@ -1,9 +1,9 @@
 -- Laws of what is handed to an append: its tests one element after the other, what the rules leave once they are passed, and the whole
 -- table by its parts. Assumes nothing.
 use mathlib.Core.Path.{◌≡◌, refl, sym, ap, subst, ◌∙◌}
-use mathlib.Core.Bool.{Bool, true, false, not, cond, false≢true}
+use mathlib.Core.Bool.{Bool, true, false, not, ◌&&◌, ◌||◌, cond, false≢true}
 use mathlib.Core.List.{List}
-use Prim.Native.Nat.{ℕ, ◌+◌, ◌*◌, ◌-◌, ◌%◌, ◌<◌}
+use Prim.Native.Nat.{ℕ, zero, suc, ◌+◌, ◌*◌, ◌-◌, ◌%◌, ◌^◌, ◌≤◌, ◌<◌}
 use native.Mathlib.Omega.{arith}
 use native.Mathlib.Nat.{lt_of_not-le}
 use native.Mathlib.Decide.{dec_le}
@@ -11,8 +11,18 @@ use native.Mathlib.Numerals.{add-one}
 use borrow.Author.Tests.{leb-true, ltb-true, ltb-false, eqb-true, le-leb, lt-leb, le-ltb}
 use lib.Dec.{leb, ltb, eqb}
 use lib.IntN.{ℤ, pos, negsuc}
-use lib.ListN.{length, get_or}
-use lib.Signed.{lt_z}
+use lib.ListN.{length, get_or, take}
+use lib.Signed.{mag, lt_z}
+use mir.Val.{hbits}
+use Rattle.std.specs.List.{list_any}
+use Rattle.std.specs.Ordering.{int_eq}
+use Rattle.std.proofs.lemmas.List.Folds.{list_any_more}
+use Rattle.std.proofs.lemmas.Bool.Decides.{Decides-int_eq}
+use Rattle.outcome.specs.declared.refusal.Refusal.{Refusal}
+use Rattle.outcome.specs.Refusal.{number_of}
+use Rattle.outcome.proofs.Refusals.{number-positive}
+use Rattle.outcome.proofs.Either.{either}
+use Rattle.words.specs.Word.{integer8, signed_of, bits_of}
 use Rattle.words.specs.Range.{at_least}
 use Rattle.words.proofs.Runs.{Run, run-all}
 use Rattle.geometry.specs.declared.units.RecordNumber.{RecordNumber}
@@ -21,12 +31,17 @@ use Rattle.descriptor.specs.Refusal.{Rule, AllHold}
 use Rattle.descriptor.specs.Bounds.{Admitted}
 use Rattle.descriptor.proofs.Refusals.{all_hold, refusal-none, hold-split, refusal-append}
 use Rattle.pieces.specs.Tables.{same_integer}
-use Rattle.pieces.proofs.SectionTables.{same-other}
-use Rattle.storing.specs.Handed.{Handed, absent, distinct, sum_of, nword_in}
+use Rattle.pieces.proofs.SectionTables.{same-equal, same-other}
+use Rattle.storing.specs.Handed.{Handed, absent, distinct, words_of, sum_of, nword_in}
+use Rattle.storing.proofs.Lengths.{read_back, counted}
 use Rattle.writer.specs.Rules.{handed_rules, append_rules, handed_refusal, append_refusal}
 use Rattle.placing.specs.Rules.{placement_rules, placement_refusal}
 use Rattle.placing.proofs.Placed.{placed}
 use Rattle.storing.specs.Bounds.{Fitting, Accepted}
+
+-- a refusal's number is 1 or more
+pub number_low : (r : Refusal) → 1 ≤ number_of r
+number_low r = omega (arith, number-positive r)
 
 -- so much or more is not below
 not-below : (low n : ℕ) → leb low n ≡ not (ltb n low)
@@ -42,10 +57,39 @@ unfolding at_least
 at_least-below low (pos n) = not-below low n
 at_least-below low (negsuc n) = refl
 
+-- a length that code reads is 1 or more where it does not find it below
+pub tested : (lengths : List ℤ) (k : ℕ) (b : Bool) → mag (get_or lengths k (pos 0)) < 2 ^ hbits integer8
+    → lt_z (signed_of integer8 (bits_of integer8 (get_or lengths k (pos 0)))) (pos 1) ≡ b → at_least 1 (get_or lengths k (pos 0)) ≡ not b
+tested lengths k b f h = at_least-below 1 _ ∙ ap not (rw (read_back integer8 lengths k f) at h)
+
+-- and past that test its bits are its words
+pub words-read : (lengths : List ℤ) (k r : ℕ) → mag (get_or lengths k (pos 0)) < 2 ^ hbits integer8 → at_least 1 (get_or lengths k (pos 0)) ≡ true
+    → r ≡ bits_of integer8 (signed_of integer8 (bits_of integer8 (get_or lengths k (pos 0)))) → r ≡ words_of (get_or lengths k (pos 0))
+words-read lengths k r f s e = e ∙ ap (bits_of integer8) (read_back integer8 lengths k f) ∙ counted _ s
+
 -- that an identifier is none of the others runs over them
 pub absent-run : (ids : List ℤ) (z : ℤ) → Run (absent ids z) (λ k. not (same_integer (get_or ids k (pos 0)) z))
 unfolding absent
 absent-run ids z = record { next = λ k. rw add-one }
+
+-- the definition's test of two integers is the code's
+same-integer : (y z : ℤ) → same_integer y z ≡ int_eq y z
+same-integer y z =
+    either (int_eq y z) (λ q. same-equal y z ((Decides-int_eq y z).0 q) ∙ sym q) (λ q. same-other y z (λ e. false≢true (sym q ∙ (Decides-int_eq y z).1 e)) ∙ sym q)
+
+-- neither of two
+neither : (a b : Bool) → (not a && not b) ≡ not (a || b)
+neither true b = refl
+neither false b = refl
+
+-- it is none of the first k where code does not find it among them
+pub absent-found : (ids : List ℤ) (z : ℤ) (k : ℕ) → k ≤ length ids → absent ids z k ≡ not (list_any (λ y. int_eq y z) (take k ids))
+unfolding absent
+absent-found ids z zero h = refl
+absent-found ids z (suc k) h =
+    let found : ℕ → Bool = λ n. list_any (λ y. int_eq y z) (take n ids) in
+    let more = ap found (sym (add-one k)) ∙ list_any_more (λ y. int_eq y z) ids k (pos 0) (omega arith) in
+    rw (more, absent-found ids z k (omega arith), same-integer) (neither (found k) (int_eq (get_or ids k (pos 0)) z))
 
 -- and so does that no two are equal
 pub distinct-run : (ids : List ℤ) → Run (distinct ids) (λ k. absent ids (get_or ids k (pos 0)) k)

@@ -1,6 +1,9 @@
 -- What an append answers, and what it leaves in the file.
-use Rattle.std.specs.Prelude.{ℕ, cond, List, eqb, length}
-use Rattle.outcome.specs.Outcome.{AnswersAndLeaves}
+use Rattle.std.specs.Prelude.{ℕ, cond, List, eqb, length, Result, Ok, Err}
+use Rattle.outcome.specs.declared.refusal.Refusal.{Refusal}
+use Rattle.outcome.specs.Outcome.{Leaves, AnswersAndLeaves}
+use Rattle.outcome.specs.Refusal.{number_of, Gives}
+use Rattle.geometry.specs.declared.units.EntryNumber.{EntryNumber}
 use Rattle.geometry.specs.declared.units.RecordNumber.{RecordNumber}
 use Rattle.descriptor.specs.declared.numbers.DescriptorNumbers.{DescriptorNumbers}
 use Rattle.descriptor.specs.declared.validating.Validated.{Validated}
@@ -19,6 +22,11 @@ accepted_from d = record { refusal = 0; number = d.xnext }
 -- a refused one: the number is 0
 abbrev pub refused_from : ℕ → Appended
 refused_from n = record { refusal = n; number = record { 0 = 0 } }
+
+-- the answer of a new number, or of a refusal
+abbrev pub answer_of : Result EntryNumber Refusal → Appended
+answer_of (Ok number) = record { refusal = 0; number = number }
+answer_of (Err r) = refused_from (number_of r)
 
 -- one or the other, by the table
 unfoldable pub appended_from : ℕ → DescriptorNumbers → Handed → Appended
@@ -52,6 +60,6 @@ file_after file h = file_in file (validation_of file).numbers (validation_of fil
 abbrev pub Appends : List ℕ → Handed → Appended → List ℕ → Type 0
 Appends file h answer after = AnswersAndLeaves (append_of file h) (file_after file h) answer after
 
--- and `append_from`, to a file of admitted numbers
-abbrev pub AppendsFrom : List ℕ → DescriptorNumbers → Handed → Appended → List ℕ → Type 0
-AppendsFrom file d h answer after = AnswersAndLeaves (appended_from (length file) d h) (file_from file d (addresses_of file d.nex) h) answer after
+-- and `append_from`, to a file of admitted numbers: the new number, or the refusal by the table, and the file after it
+abbrev pub AppendsFrom : List ℕ → DescriptorNumbers → Handed → Result EntryNumber Refusal → List ℕ → Type 0
+AppendsFrom file d h outcome after = Gives (append_refusal (length file) d h) d.xnext outcome × Leaves (file_from file d (addresses_of file d.nex) h) after

@@ -7,10 +7,11 @@ use super::inner::append_from;
 use descriptor::inner::admit;
 use descriptor::{Validated, refusal_of};
 use geometry::EntryNumber;
+use storing::NewEntry;
 
 // Appends an entry: its version, the application's index words, its sections by identifiers, lengths
 // and bytes one after another, and its data. Refuses by the first rule of 1 to 11, 29 and 21 to 24
-// that is broken, and then changes no byte.
+// that is broken, and then changes no byte. The parts are lent one by one, as C has them.
 pub fn append(
     file: &mut [u8],
     version: i32,
@@ -30,7 +31,13 @@ pub fn append(
             number: EntryNumber(0),
         };
     };
-    append_from(
-        d, &totals, file, version, index, ids, lengths, sections, values,
-    )
+    let entry = NewEntry {
+        version,
+        index,
+        ids,
+        lengths,
+        sections,
+        values,
+    };
+    Appended::from(append_from(d, &totals, file, &entry))
 }

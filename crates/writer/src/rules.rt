@@ -1,45 +1,33 @@
 // Rules 21 and 22, on what is handed to an append, tested in the order of their table.
-ghost use Rattle.std.specs.Prelude.{◌&&◌, ◌≤◌, length, eqb};
+ghost use Rattle.std.specs.Prelude.{◌&&◌, length, eqb};
 ghost use Rattle.outcome.specs.Outcome.{Answers};
+ghost use Rattle.outcome.specs.Refusal.{Refuses};
 ghost use Rattle.geometry.specs.Units.{offset_of};
 ghost use Rattle.descriptor.specs.Bounds.{Settled};
-ghost use Rattle.storing.specs.Handed.{absent, distinct, positive, sum_of};
+ghost use Rattle.storing.specs.Handed.{distinct, positive, sum_of, handed_of};
 ghost use Rattle.writer.specs.Rules.{handed_refusal};
 
 use descriptor::DescriptorNumbers;
 use geometry::byte_offset;
 use layout::entry_descriptor::PLACES;
+use outcome::Refusal;
+use storing::NewEntry;
 
-// Whether an identifier is none of the first `count`.
-fn is_absent(ids: &[i32], identifier: i32, count: usize) -> bool
-    requires { count ≤ length ids.now }
-    ensures { Answers (absent ids.now identifier count) result }
-{
-    let mut passed = 0;
-    while passed < count {
-        if ids[passed] == identifier {
-            return false;
-        }
-        passed += 1;
-    }
-    true
-}
+// The length of a section, at least.
+const LENGTH_MIN: i64 = 1;
 
 // Whether no two identifiers are equal. One above the highest of those before it is new; only another is compared with
 // each of them.
 fn are_distinct(ids: &[i32]) -> bool
     ensures { Answers (distinct ids.now (length ids.now)) result }
 {
-    let mut highest = -2147483648;
-    let mut passed = 0;
-    while passed < ids.len() {
-        let identifier = ids[passed];
-        if highest < identifier {
-            highest = identifier;
-        } else if !is_absent(ids, identifier, passed) {
+    let mut highest = i32::MIN;
+    for (i, identifier) in ids.iter().enumerate() {
+        if highest < *identifier {
+            highest = *identifier;
+        } else if ids[..i].contains(identifier) {
             return false;
         }
-        passed += 1;
     }
     true
 }
@@ -53,51 +41,28 @@ fn make_up(lengths: &[i64], bytes: usize) -> bool
         return false;
     }
     let mut left = (bytes / 4) as u64;
-    let mut passed = 0;
-    while passed < lengths.len() {
-        let length = lengths[passed];
-        if length < 1 {
+    for length in lengths {
+        if *length < LENGTH_MIN {
             return false;
         }
-        let words = words::bits64(length);
-        if left < words {
+        let Some(rest) = left.checked_sub(length.cast_unsigned()) else {
             return false;
-        }
-        left -= words;
-        passed += 1;
+        };
+        left = rest;
     }
     left == 0
 }
 
-// Rules 21 and 22, on what is handed in: the first that is broken, or 0.
-pub(crate) fn handed_refusal(
-    d: DescriptorNumbers,
-    index: &[u8],
-    ids: &[i32],
-    lengths: &[i64],
-    sections: &[u8],
-    values: &[u8],
-) -> u32
+// Rules 21 and 22, on what is handed in.
+#[tactic(auto, using(crate::proofs::HandedIn::number_low), unfolding(crate::specs::Rules::handed_refusal))]
+pub(crate) fn handed_refusal(d: DescriptorNumbers, entry: &NewEntry) -> Result<(), Refusal>
     requires { Settled d }
-    ensures { Answers (handed_refusal d index.now ids.now lengths.now sections.now values.now) result }
+    ensures { let h = handed_of entry.now in Refuses (handed_refusal d h.index h.ids h.lengths h.sections h.values) result }
 {
-    if index.len() != byte_offset(d.lind - 3) {
-        return 21;
-    }
-    if PLACES < ids.len() {
-        return 22;
-    }
-    if lengths.len() != ids.len() {
-        return 22;
-    }
-    if !are_distinct(ids) {
-        return 22;
-    }
-    if !make_up(lengths, sections.len()) {
-        return 22;
-    }
-    if values.len() % 4 != 0 {
-        return 22;
-    }
-    0
+    Refusal::AppendIndex.unless(entry.index.len() == byte_offset(d.lind - 3))?;
+    Refusal::AppendParts.unless(entry.ids.len() <= PLACES)?;
+    Refusal::AppendParts.unless(entry.lengths.len() == entry.ids.len())?;
+    Refusal::AppendParts.unless(are_distinct(entry.ids))?;
+    Refusal::AppendParts.unless(make_up(entry.lengths, entry.sections.len()))?;
+    Refusal::AppendParts.unless(entry.values.len() % 4 == 0)
 }

@@ -23,7 +23,7 @@ use Rattle.descriptor.specs.declared.numbers.DescriptorNumbers.{DescriptorNumber
 use Rattle.layout.specs.FirstRecordWords.{reclen_word, kind_word, vind_word, lind_word, flags_word, xnext_word, nextrec_word, nextword_word, lex1_word, nex_word, gex_word, after_aex}
 use Rattle.layout.specs.FileCode.{file_code, order_said, file_code_of, byte_order_of}
 use Rattle.layout.proofs.FileCodes.{length-code, order-coded}
-use Rattle.descriptor.specs.FirstRecord.{field4, field8, numbers_of, created_of, addresses_of, free_of}
+use Rattle.descriptor.specs.FirstRecord.{field, field4, field8, numbers_of, created_of, addresses_of, free_of}
 use Rattle.descriptor.specs.Areas.{area_after, areas_start, areas_end}
 use Rattle.descriptor.specs.Rules.{setting_rules, setting_refusal, creation_rules, entries_fit, no_leftovers}
 use Rattle.descriptor.specs.Bounds.{Narrow, Admitted}
@@ -113,7 +113,7 @@ module _ (file : List ℕ) (d : DescriptorNumbers) where
 
     -- all of them
     numbers-first : d.order.0 ≤ 1 → Narrow d → d.xnext.0 < 2 ^ 64 → d.nextrec.0 < 2 ^ 64 → numbers_of (first_written file d) ≡ d
-    unfolding numbers_of field4 field8
+    unfolding numbers_of field
     numbers-first o t x r =
         rw (
           order-first o,

@@ -29,7 +29,7 @@ use Rattle.descriptor.specs.declared.numbers.DescriptorNumbers.{DescriptorNumber
 use Rattle.descriptor.proofs.Admitting.{xnext-small}
 use Rattle.layout.specs.FileCode.{byte_order_of}
 use Rattle.layout.specs.EntryWords.{entry_code, entry_code_word, version_word, nsec_word, nword_word, adata_word, ldata_word, xnum_word, identifier_word, length_word, address_word, first_content}
-use Rattle.pieces.specs.EntryDescriptor.{word_offset, word4, word8, entry_code_of, version_of, nsec_of, nword_of, adata_of, ldata_of, xnum_of, identifier_at, length_at, address_at}
+use Rattle.pieces.specs.EntryDescriptor.{word_of, word_offset, word4, word8, entry_code_of, version_of, nsec_of, nword_of, adata_of, ldata_of, xnum_of, identifier_at, length_at, address_at}
 use Rattle.storing.specs.Handed.{Handed, words_of, sum_of, nsec_in, ldata_in, nword_in}
 use Rattle.placing.specs.Placing.{entry_start}
 use Rattle.storing.specs.Writing.{behind, head_from, head_of, area_written, entry_written}
@@ -100,7 +100,7 @@ module _ (file : List ℕ) {d : DescriptorNumbers} {addresses : List RecordNumbe
 
   -- the version
   pub version-new : SFits integer4 h.version → version_of (new file x) start ≡ h.version
-  unfolding word4 head_from
+  unfolding word_of head_from
   version-new f =
       ap (λ (p : ByteOrder). signed_at p integer4 (new file x) (word_offset start version_word)) (order-new file x o)
       ∙ value_of d.order integer4 (new file x) (word_offset start version_word) h.version f
@@ -108,12 +108,12 @@ module _ (file : List ℕ) {d : DescriptorNumbers} {addresses : List RecordNumbe
 
   -- nsec
   pub nsec-new : nsec_of (new file x) start ≡ nsec_in h
-  unfolding word4 head_from
+  unfolding word_of head_from
   nsec-new = word_read integer4 2 nsec_word (nsec_in h) refl (omega (arith, x.fitting.few)) (omega arith)
 
   -- nword
   pub nword-new : nword_of (new file x) start ≡ nword_in h
-  unfolding word8 head_from
+  unfolding word_of head_from
   nword-new = word_read integer8 3 nword_word (nword_in h) refl (omega (arith, (left file x).small)) (omega arith)
 
   -- adata where there is data: behind the sections
@@ -131,17 +131,17 @@ module _ (file : List ℕ) {d : DescriptorNumbers} {addresses : List RecordNumbe
 
   -- adata
   pub adata-new : (adata_of (new file x) start).0 ≡ (head_of h d.xnext).adata.0
-  unfolding word8
+  unfolding word_of
   adata-new = word_read integer8 4 adata_word (head_of h d.xnext).adata.0 refl adata-small (omega arith)
 
   -- ldata
   pub ldata-new : ldata_of (new file x) start ≡ ldata_in h
-  unfolding word8 head_from
+  unfolding word_of head_from
   ldata-new = word_read integer8 5 ldata_word (ldata_in h) refl (omega (arith, (left file x).small)) (omega arith)
 
   -- xnum
   pub xnum-new : xnum_of (new file x) start ≡ d.xnext.0
-  unfolding word8 head_from
+  unfolding word_of head_from
   xnum-new = word_read integer8 6 xnum_word d.xnext.0 refl (omega (arith, xnext-small (length file) d addresses x.admitted)) (omega arith)
 
   -- ---- the tables
@@ -165,14 +165,14 @@ module _ (file : List ℕ) {d : DescriptorNumbers} {addresses : List RecordNumbe
 
     -- its identifier
     pub identifier-new : SFits integer4 (get_or h.ids i (pos 0)) → identifier_at (new file x) start i ≡ get_or h.ids i (pos 0)
-    unfolding word4
+    unfolding word_of
     identifier-new f =
         rw (item-read integer4 (λ a z. bits_of integer4 z) (integer-table d.order integer4) 7 (identifier_word 0) 0 h.ids i (identifier_word i) refl l (omega arith) (omega arith) (omega arith) (Fits-of_z f).fits)
         (signed-bits integer4 (get_or h.ids i (pos 0)) f)
 
     -- its length
     pub length-new : length_at (new file x) start (nsec_in h) i ≡ words
-    unfolding word8
+    unfolding word_of
     length-new =
         let pairs = x.fitting.pairs in
         let is = counted (get_or h.lengths i (pos 0)) long in
@@ -182,7 +182,7 @@ module _ (file : List ℕ) {d : DescriptorNumbers} {addresses : List RecordNumbe
 
     -- its address
     pub address-new : (address_at (new file x) start (nsec_in h) i).0 ≡ (first_content (nsec_in h)).0 + before
-    unfolding word8
+    unfolding word_of
     address-new =
         let pairs = x.fitting.pairs in
         item-read integer8 (λ a z. a) (address-table d.order) 9 (address_word (nsec_in h) 0) (first_content (nsec_in h)).0 h.lengths i (address_word (nsec_in h) i) refl (omega arith) (omega arith) (omega arith) (omega arith)

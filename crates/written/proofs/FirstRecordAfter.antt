@@ -23,7 +23,7 @@ use Rattle.layout.specs.FirstRecordWords.{reclen_word, kind_word, vind_word, lin
 use Rattle.geometry.specs.declared.units.WordNumber.{WordNumber}
 use Rattle.descriptor.specs.declared.numbers.DescriptorNumbers.{DescriptorNumbers}
 use Rattle.layout.specs.FileCode.{order_said, file_code_of, byte_order_of}
-use Rattle.descriptor.specs.FirstRecord.{field4, field8, numbers_of, aex_at, addresses_of}
+use Rattle.descriptor.specs.FirstRecord.{field, field4, field8, numbers_of, aex_at, addresses_of}
 use Rattle.descriptor.specs.Rules.{no_leftovers}
 use Rattle.storing.specs.Handed.{Handed}
 use Rattle.placing.specs.Placing.{full, new_area, nex_after, numbers_after, addresses_after}
@@ -65,7 +65,7 @@ module _ (file : List ℕ) {d : DescriptorNumbers} {addresses : List RecordNumbe
 
   -- a word before the addresses that is none of 7 to 11, and not 13 where an extension is made
   word_kept : (w : WordNumber) → w.0 ≤ 14 → Beside (first_record_offset_of w) 4 24 20 → (full d ≡ true → Beside (first_record_offset_of w) 4 48 4) → field4 (new file x) w ≡ field4 file w
-  unfolding field4
+  unfolding field
   word_kept w l b c =
       bits-alike w32 (new file x) file (first_record_offset_of w) (first_record_offset_of w) order-kept (first-keep (first_record_offset_of w) 4 (omega (arith, words)) b (λ q. (c q, inl (omega arith))))
 
@@ -108,7 +108,7 @@ module _ (file : List ℕ) {d : DescriptorNumbers} {addresses : List RecordNumbe
 
     -- word 13: written with a new area, else kept
     nex-read : field4 file nex_word ≡ d.nex → field4 (new file x) nex_word ≡ nex_after d
-    unfolding field4
+    unfolding field
     nex-read e =
         either (full d)
         (λ q.
@@ -121,7 +121,7 @@ module _ (file : List ℕ) {d : DescriptorNumbers} {addresses : List RecordNumbe
 
     -- where the file held the numbers before the append, it holds those after it
     pub numbers-read : numbers_of file ≡ d → numbers_of (new file x) ≡ then file x
-    unfolding numbers_of numbers_after field4 field8
+    unfolding numbers_of numbers_after field
     numbers-read e =
         let a = (left file x).admitted in
         rw (
@@ -141,7 +141,7 @@ module _ (file : List ℕ) {d : DescriptorNumbers} {addresses : List RecordNumbe
 
     -- an address in use stays
     address_kept : (i : ℕ) → i < d.nex → aex_at (new file x) i ≡ aex_at file i
-    unfolding field8
+    unfolding field
     address_kept i l =
         let at = first_record_offset_of (aex_word i) in
         rw (bits-alike w64 (new file x) file at at order-kept
@@ -149,7 +149,7 @@ module _ (file : List ℕ) {d : DescriptorNumbers} {addresses : List RecordNumbe
 
     -- the address of a new area is written
     address-new : full d ≡ true → aex_at (new file x) d.nex ≡ new_area d
-    unfolding field8
+    unfolding field
     address-new q =
         rw (area-read q w64 (first_record_offset_of (aex_word d.nex)) (new_area d).0 (take 2 (area_writes d)) (drop 3 (area_writes d)) refl tt (omega arith)
         (omega (arith, (nex-more d x.admitted.settled x.extensible q).1))

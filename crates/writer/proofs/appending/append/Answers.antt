@@ -6,6 +6,7 @@ use Rattle.descriptor.specs.declared.validating.Validated.TheVariants.{Numbers, 
 use Rattle.descriptor.specs.Answers.{no_validation}
 use Rattle.descriptor.proofs.Answered.{Admits, case-told, case-left}
 use Rattle.writer.specs.Answers.{append_in, file_in}
+use Rattle.writer.proofs.ByRefusal.{given-answer}
 use Rattle.writer.proofs.Answering.{append-by, file-by}
 use Rattle.writer.proofs.appending.append.Goals as goal
 use Rattle.writer.proofs.appending.append.Goals.{In-Numbers}
@@ -31,4 +32,4 @@ returns c =
     let file = c.args.file.now in
     let told = sym (shown (goal.at.returns c).In-Numbers).validation in
     let a = rw (to_z-of_z {w = w32} c.ranges.version) at c.append_from.ensures in
-    (a.0 ∙ sym (append-by file _ (Numbers c.in-Numbers.d) told refl _), a.1 ∙ sym (file-by file _ (Numbers c.in-Numbers.d) told refl _))
+    (c.from.ensures ∙ given-answer file c.in-Numbers.d _ c.append_from.result a.0 ∙ sym (append-by file _ (Numbers c.in-Numbers.d) told refl _), a.1 ∙ sym (file-by file _ (Numbers c.in-Numbers.d) told refl _))
