@@ -9,7 +9,7 @@ use Rattle.words.specs.Table.{places}
 use Rattle.geometry.specs.declared.units.EntryAddress.{EntryAddress}
 use Rattle.pieces.specs.EntryDescriptor.{section_of}
 use Rattle.pieces.specs.Tables.{section_identifiers, section_lengths, section_addresses, sections_of}
-use Rattle.entry.specs.declared.entered.Entered.{Entered}
+use Rattle.entry.specs.Entered.{Entered}
 use Rattle.entry.specs.Answers.{opened_as}
 use Rattle.classic.specs.Answers.{entry_addresses, entry_having, entry_for}
 use Rattle.classic.proofs.Filled.{map-places}

@@ -15,7 +15,7 @@ use Rattle.descriptor.specs.Answers.{validation_of, validated_case}
 use Rattle.descriptor.specs.Bounds.{Narrow, Admitted}
 use Rattle.descriptor.proofs.Passed.{narrow}
 use Rattle.descriptor.proofs.Answered.{file-passed, file-admitted, answer-numbers, answer-refused}
-use Rattle.entry.specs.declared.entered.Entered.{Entered}
+use Rattle.entry.specs.Entered.{Entered}
 use Rattle.entry.specs.Opening.{entered_of}
 use Rattle.entry.proofs.Entering.{entry-opens, entered-numbers, entered-refusal}
 use Rattle.outcome.proofs.Either.{either}

@@ -9,7 +9,7 @@ use Rattle.descriptor.specs.declared.numbers.Settings.{Settings}
 use Rattle.descriptor.specs.Answers.{validated_case}
 use Rattle.pieces.specs.declared.tables.Sections.{Sections}
 use Rattle.words.specs.Word.{integer8, signed_of}
-use Rattle.entry.specs.declared.entered.Entered.{Entered}
+use Rattle.entry.specs.Entered.{Entered}
 use Rattle.entry.specs.declared.answers.OpenCase.{OpenCase}
 use Rattle.entry.specs.declared.answers.Opened.{Opened}
 use Rattle.entry.specs.Answers.{open_case}

@@ -1,5 +1,7 @@
 // The answers and the settings as C has them. The fields are those of include/classic.h, in its order.
+use descriptor::{Extension, Settings};
 use layout::entry_descriptor::PLACES;
+use order::Checked;
 
 // A file's descriptor: the refusal, 0 when it is admitted; its byte order; its numbers; and the first record of each
 // index area, zero past nex.
@@ -33,10 +35,26 @@ pub struct ClassicExtension {
     pub records: u64,
 }
 
+impl From<Extension> for ClassicExtension {
+    ghost use Rattle.outcome.specs.Outcome.{Answers};
+    ghost use Rattle.classic.specs.Answers.{extension_for};
+
+    ghost from_gives = { λ extension answer. Answers (extension_for extension) answer };
+
+    fn from(extension: Extension) -> Self {
+        ClassicExtension {
+            refusal: extension.refusal,
+            capacity: extension.capacity,
+            first: extension.first.0,
+            records: extension.records,
+        }
+    }
+}
+
 // An opened entry: the refusal, where it starts, its numbers as stored, and its sections, zero past
 // nsec.
 #[repr(C)]
-#[derive(Clone, Copy)]
+#[derive(Clone, Copy, Default)]
 pub struct ClassicEntry {
     pub refusal: u32,
     pub record: u64,
@@ -68,6 +86,20 @@ pub struct ClassicChecked {
     pub refusal: u32,
 }
 
+impl From<Checked> for ClassicChecked {
+    ghost use Rattle.outcome.specs.Outcome.{Answers};
+    ghost use Rattle.classic.specs.Answers.{checked_for};
+
+    ghost from_gives = { λ checked answer. Answers (checked_for checked) answer };
+
+    fn from(checked: Checked) -> Self {
+        ClassicChecked {
+            entry: checked.entry.0,
+            refusal: checked.refusal,
+        }
+    }
+}
+
 // What a caller chooses for a new file.
 #[repr(C)]
 #[derive(Clone, Copy)]
@@ -80,4 +112,24 @@ pub struct ClassicSettings {
     pub flags: i32,
     pub lex1: i32,
     pub gex: i32,
+}
+
+impl From<ClassicSettings> for Settings {
+    ghost use Rattle.outcome.specs.Outcome.{Answers};
+    ghost use Rattle.classic.specs.Answers.{settings_from};
+
+    ghost from_gives = { λ settings chosen. Answers (settings_from settings) chosen };
+
+    fn from(settings: ClassicSettings) -> Self {
+        Settings {
+            order: settings.order,
+            reclen: settings.reclen,
+            kind: settings.kind,
+            vind: settings.vind,
+            lind: settings.lind,
+            flags: settings.flags,
+            lex1: settings.lex1,
+            gex: settings.gex,
+        }
+    }
 }

@@ -10,9 +10,5 @@ use order::check_order;
 pub fn classic_check(file: &[u8]) -> ClassicChecked
     ensures { Answers (checked_for (check_of file.now)) result }
 {
-    let checked = check_order(file);
-    ClassicChecked {
-        entry: checked.entry.0,
-        refusal: checked.refusal,
-    }
+    check_order(file).into()
 }

@@ -3,22 +3,11 @@ ghost use Rattle.writer.specs.Creation.{Creates};
 ghost use Rattle.classic.specs.Answers.{settings_from};
 
 use super::answers::ClassicSettings;
-use descriptor::Settings;
 use writer::create;
 
 // Writes the first record of a file with no entries. Answers 0, or the refusal.
 pub fn classic_create(file: &mut [u8], settings: ClassicSettings) -> u32
     ensures { Creates file.old (settings_from settings) result file.new }
 {
-    let chosen = Settings {
-        order: settings.order,
-        reclen: settings.reclen,
-        kind: settings.kind,
-        vind: settings.vind,
-        lind: settings.lind,
-        flags: settings.flags,
-        lex1: settings.lex1,
-        gex: settings.gex,
-    };
-    create(file, chosen)
+    create(file, settings.into())
 }

@@ -1,20 +1,21 @@
 // Opening an entry, for C.
-ghost use Rattle.std.specs.Prelude.{◌≡◌, ◌≤◌};
+ghost use Rattle.std.specs.Prelude.{◌≤◌};
 ghost use Rattle.outcome.specs.Outcome.{Answers};
 ghost use Rattle.pieces.specs.Bounds.{Described};
+ghost use Rattle.entry.specs.Entered.{given};
 ghost use Rattle.entry.specs.Answers.{not_opened, opened_as, open_of};
 ghost use Rattle.classic.specs.Answers.{entry_for, entry_having};
 ghost use Rattle.classic.specs.Bounds.{Slim};
 
 use super::answers::ClassicEntry;
-use super::sections::{fill_addresses, fill_identifiers, fill_lengths};
+use super::sections::fill;
 use descriptor::inner::admit;
 use descriptor::{Validated, refusal_of};
 use entry::Entered;
 use entry::inner::enter;
 use geometry::EntryNumber;
 use layout::entry_descriptor::PLACES;
-use pieces::{identifier_at, section_at};
+use pieces::EntryWords;
 use words::ByteOrder;
 
 // The most sections that are few.
@@ -26,16 +27,7 @@ fn no_entry(refusal: u32) -> ClassicEntry
 {
     ClassicEntry {
         refusal,
-        record: 0,
-        word: 0,
-        version: 0,
-        nsec: 0,
-        nword: 0,
-        adata: 0,
-        ldata: 0,
-        ids: [0i32; PLACES],
-        lengths: [0u64; PLACES],
-        addresses: [0u64; PLACES],
+        ..ClassicEntry::default()
     }
 }
 
@@ -46,8 +38,8 @@ fn entry_having(
     lengths: [u64; PLACES],
     addresses: [u64; PLACES],
 ) -> ClassicEntry
-    requires { Slim entered }
-    ensures { Answers (entry_having entered ids lengths addresses) result }
+    requires { Slim (given entered) }
+    ensures { Answers (entry_having (given entered) ids lengths addresses) result }
 {
     let place = entered.place;
     let array = entered.array;
@@ -58,7 +50,7 @@ fn entry_having(
         version: entered.version,
         nsec: entered.nsec as u32,
         nword: entered.nword,
-        adata: words::signed64(array.address.0),
+        adata: array.address.0.cast_signed(),
         ldata: array.words,
         ids,
         lengths,
@@ -66,26 +58,29 @@ fn entry_having(
     }
 }
 
-// An entry with few sections that was entered with no refusal, with its tables read from the file. The loop has a fixed
+// An entry with few sections, with its tables read from the file. The loop has a fixed
 // count of turns, which the compiler lays out one behind the other: so the tables are stored where they stay.
 fn entry_of_few(order: ByteOrder, file: &[u8], entered: Entered) -> ClassicEntry
-    requires { Slim entered × Described order file.now entered.start entered.nsec × (entered.refusal ≡ 0) × (entered.nsec ≤ 8) }
-    ensures { Answers (entry_for (opened_as file.now entered)) result }
+    requires { Slim (given entered) × Described order file.now entered.start entered.nsec × (entered.nsec ≤ 8) }
+    ensures { Answers (entry_for (opened_as file.now (given entered))) result }
 {
-    let start = entered.start;
     let nsec = entered.nsec;
+    let stored = EntryWords {
+        order,
+        file,
+        start: entered.start,
+        nsec,
+    };
     let mut ids = [0i32; PLACES];
     let mut lengths = [0u64; PLACES];
     let mut addresses = [0u64; PLACES];
-    let mut passed = 0;
-    while passed < FEW {
+    for passed in 0..FEW {
         if passed < nsec {
-            let section = section_at(order, file, start, nsec, passed);
-            ids[passed as usize] = identifier_at(order, file, start, nsec, passed);
+            let section = stored.section(passed);
+            ids[passed as usize] = stored.identifier(passed);
             lengths[passed as usize] = section.words;
             addresses[passed as usize] = section.address.0;
         }
-        passed += 1;
     }
     entry_having(entered, ids, lengths, addresses)
 }
@@ -99,10 +94,10 @@ pub fn classic_open(file: &[u8], entry: u64) -> ClassicEntry
     let Validated::Numbers(d) = case else {
         return no_entry(refusal_of(case));
     };
-    let entered = enter(file, d, &totals, EntryNumber(entry));
-    if entered.refusal != 0 {
-        return no_entry(entered.refusal);
-    }
+    let entered = match enter(file, d, &totals, EntryNumber(entry)) {
+        Ok(entered) => entered,
+        Err(refusal) => return no_entry(refusal.number()),
+    };
     let nsec = entered.nsec;
     if nsec == 0 {
         return entry_having(entered, [0i32; PLACES], [0u64; PLACES], [0u64; PLACES]);
@@ -110,11 +105,17 @@ pub fn classic_open(file: &[u8], entry: u64) -> ClassicEntry
     if nsec <= FEW {
         return entry_of_few(d.order, file, entered);
     }
+    let stored = EntryWords {
+        order: d.order,
+        file,
+        start: entered.start,
+        nsec,
+    };
     let mut ids = [0i32; PLACES];
     let mut lengths = [0u64; PLACES];
     let mut addresses = [0u64; PLACES];
-    fill_identifiers(d.order, file, entered.start, nsec, &mut ids);
-    fill_lengths(d.order, file, entered.start, nsec, &mut lengths);
-    fill_addresses(d.order, file, entered.start, nsec, &mut addresses);
+    fill(&mut ids, nsec, |i| stored.identifier(i));
+    fill(&mut lengths, nsec, |i| stored.section(i).words);
+    fill(&mut addresses, nsec, |i| stored.section(i).address.0);
     entry_having(entered, ids, lengths, addresses)
 }

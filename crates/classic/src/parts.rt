@@ -8,7 +8,7 @@ use super::answers::ClassicPart;
 use geometry::EntryNumber;
 use handing::{PartPlace, data_array_place, index_words_place, section_place};
 
-// A part by its start and length.
+// A part by its start and length. It asks that the place starts no later than it ends, which a `From` could not ask.
 fn part_at(place: PartPlace) -> ClassicPart
     requires { place.start ≤ place.end }
     ensures { Answers (part_for place) result }

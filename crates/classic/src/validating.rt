@@ -10,7 +10,7 @@ use descriptor::inner::admit;
 use descriptor::{Validated, ValidatedCase, extension_of, validated_case};
 use geometry::ExtensionNumber;
 
-// A descriptor from a case and the addresses.
+// A descriptor from a case and the addresses. It asks that the numbers fit 32 bits, which a `From` could not ask.
 fn descriptor_from(case: ValidatedCase, aex: [u64; 16]) -> ClassicDescriptor
     requires { Narrow case.numbers }
     ensures { Answers (descriptor_from case aex) result }
@@ -50,11 +50,5 @@ pub fn classic_validate(file: &[u8]) -> ClassicDescriptor
 pub fn classic_extension_of(file: &[u8], number: u64) -> ClassicExtension
     ensures { Answers (extension_for (extension_of file.now (record { 0 = number }))) result }
 {
-    let extension = extension_of(file, ExtensionNumber(number));
-    ClassicExtension {
-        refusal: extension.refusal,
-        capacity: extension.capacity,
-        first: extension.first.0,
-        records: extension.records,
-    }
+    extension_of(file, ExtensionNumber(number)).into()
 }

@@ -1,49 +1,24 @@
--- Laws of decimal numbers: the digits that `io::decimal` gives are these, and how many there are at most. Assumes nothing.
-use Prim.Native.Nat.{ℕ, zero, suc, ◌+◌, ◌-◌, ◌/◌, ◌%◌, ◌^◌, ◌≤◌, ◌<◌}
-use mathlib.Core.Path.{◌≡◌, ap}
+-- Laws of decimal numbers: the digits are those that std prints, and how many there are at most. Assumes nothing.
+use Prim.Native.Nat.{ℕ, zero, suc, ◌+◌, ◌/◌, ◌^◌, ◌≤◌, ◌<◌}
+use mathlib.Core.Path.{◌≡◌, refl}
 use mathlib.Core.Bool.{Bool, true, false, cond}
-use mathlib.Core.List.{List, [], ◌∷◌, ◌++◌}
+use mathlib.Core.List.{List, [], ◌∷◌}
 use native.Mathlib.Omega.{arith}
-use native.Mathlib.Nat.{pow-suc, one-le-pow, pow-le-pow_right, mod-lt, mod-eq_of_lt, lt_of_not-le}
-use native.Mathlib.Decide.{dec_le}
 use borrow.Author.Tests.{lt-ltb, le-ltb}
 use lib.Dec.{ltb}
 use lib.ListN.{length, length-append}
-use Rattle.io.specs.Digits.{last_digits, IsDigitCount}
+use Rattle.std.specs.Fmt.{decimal}
+use Rattle.std.proofs.lemmas.Fmt.{AppendsLastDigit, decimal_from_appends, length-decimal-le}
 use Rattle.listing.specs.Text.{decimal_in, decimal_of, field_of}
 
--- the fewest digits that hold a number are its decimal digits
-fewest-digits : (j k n : ℕ) → k ≤ j → IsDigitCount 10 1 n k → last_digits 10 k n ≡ decimal_in j n
+last-digit : AppendsLastDigit decimal_in
 unfolding decimal_in
-fewest-digits j zero n h f = absurd (omega arith)
-fewest-digits zero (suc k) n h f = absurd (omega arith)
-fewest-digits (suc j) (suc zero) n h f =
-    let small : n < 10 = f.1 in
-    rw (mod-eq_of_lt small, lt-ltb n 10 small)
-fewest-digits (suc j) (suc (suc k)) n h f =
-    let q : suc (suc k) - 1 ≡ suc k = omega arith in
-    let low = rw (q, pow-suc 10 k) at (f.2 (omega arith)) in
-    let high = rw (pow-suc 10 (suc k), pow-suc 10 k) at f.1 in
-    let some = one-le-pow k 10 (omega arith) in
-    let p : suc k - 1 ≡ k = omega arith in
-    rw (le-ltb n 10 (omega arith), lt-ltb (n % 10) 10 (mod-lt n (omega arith)))
-    (ap (λ (l : List ℕ). l ++ ((48 + n % 10) ∷ []))
-    (fewest-digits j (suc k) (n / 10) (omega arith) (omega arith, rw (pow-suc 10 k) (omega arith), λ g. rw p (omega arith))))
+last-digit = record { one = λ k n h. rw (lt-ltb n 10 h) refl; more = λ k n h. rw (le-ltb n 10 h) refl }
 
--- a number of 64 bits has 20 digits at most
-few : (k n : ℕ) → n < 2 ^ 64 → IsDigitCount 10 1 n k → k ≤ 20
-few k n h f =
-    elim (dec_le k 20) [
-      | yes g ↦ g
-      | no g ↦
-          let more = lt_of_not-le g in
-          absurd (omega (arith, f.2 (omega arith), pow-le-pow_right {n = 10} (omega arith) {i = 20} {j = k - 1} (omega arith)))
-    ]
-
--- the fewest digits of a number are its decimal
-pub decimal-digits : (k n : ℕ) → n < 2 ^ 64 → IsDigitCount 10 1 n k → last_digits 10 k n ≡ decimal_of n
+-- the digits of a number of 64 bits are those that std prints
+pub decimal-printed : (n : ℕ) → n < 2 ^ 64 → decimal_of n ≡ decimal n
 unfolding decimal_of
-decimal-digits k n h f = fewest-digits 20 k n (few k n h f) f
+decimal-printed n h = decimal_from_appends decimal_in last-digit 20 n h (length-decimal-le 20 n (omega arith) (omega arith) h)
 
 -- the longer of two lists bounds the one that a test chooses
 pub either-length : (b : Bool) (xs ys : List ℕ) (m : ℕ) → length xs ≤ m → length ys ≤ m → length (cond b xs ys) ≤ m
@@ -56,16 +31,6 @@ unfolding decimal_in
 length-in zero n = omega arith
 length-in (suc j) n = either-length (ltb n 10) _ _ (suc j) (omega arith) (rw length-append (omega (arith, length-in j (n / 10))))
 
-length-held : (j k n : ℕ) → 1 ≤ k → n < 10 ^ k → length (decimal_in j n) ≤ k
-unfolding decimal_in
-length-held zero k n h l = omega arith
-length-held (suc j) zero n h l = absurd (omega arith)
-length-held (suc j) (suc zero) n h l = let small : n < 10 = l in rw (lt-ltb n 10 small) (omega arith)
-length-held (suc j) (suc (suc k)) n h l =
-    let high = rw (pow-suc 10 (suc k)) at l in
-    let rest = length-held j (suc k) (n / 10) (omega arith) (omega arith) in
-    either-length (ltb n 10) _ _ (suc (suc k)) (omega arith) (rw length-append (omega arith))
-
 -- so a decimal number has 20 bytes at most
 pub length-decimal : (n : ℕ) → length (decimal_of n) ≤ 20
 unfolding decimal_of
@@ -73,8 +38,7 @@ length-decimal n = length-in 20 n
 
 -- below 100,000 it has 5
 pub length-small : (n : ℕ) → n < 100000 → length (decimal_of n) ≤ 5
-unfolding decimal_of
-length-small n h = length-held 20 5 n (omega arith) h
+length-small n h = rw (decimal-printed n (omega arith)) (length-decimal-le 5 n (omega arith) (omega arith) (omega arith))
 
 -- a field has one byte more
 pub length-field : (n end : ℕ) → length (field_of n end) ≡ length (decimal_of n) + 1

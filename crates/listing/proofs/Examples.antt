@@ -1,7 +1,7 @@
 -- Worked examples: the decimal digits of some numbers, the least and the largest of 64 bits among them, and the lines of 01. Assumes nothing.
 use mathlib.Core.Path.{◌≡◌, refl}
 use lib.IntN.{pos}
-use Rattle.entry.specs.declared.entered.Entered.{Entered}
+use Rattle.entry.specs.Entered.{Entered}
 use Rattle.listing.specs.Text.{text, decimal_in, decimal_of, field_of}
 use Rattle.listing.specs.Listing.{refused_of, opened_row, refused_row, refused_file}
 

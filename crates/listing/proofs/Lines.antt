@@ -2,7 +2,7 @@
 use Prim.Native.Nat.{ℕ, zero, suc, ◌+◌, ◌-◌, ◌*◌, ◌≤◌, ◌<◌}
 use mathlib.Core.Path.{◌≡◌, refl, ap, ◌∙◌}
 use mathlib.Core.Bool.{false}
-use mathlib.Core.List.{List, ◌++◌}
+use mathlib.Core.List.{List, [], ◌++◌}
 use native.Mathlib.Omega.{arith}
 use lib.Dec.{eqb}
 use lib.ListN.{length, length-append}
@@ -10,7 +10,7 @@ use Rattle.geometry.specs.declared.units.RecordNumber.{RecordNumber}
 use Rattle.geometry.specs.Units.{entries_before}
 use Rattle.descriptor.specs.declared.numbers.DescriptorNumbers.{DescriptorNumbers}
 use Rattle.descriptor.specs.FirstRecord.{addresses_of}
-use Rattle.entry.specs.declared.entered.Entered.{Entered}
+use Rattle.entry.specs.Entered.{Entered}
 use Rattle.entry.specs.Opening.{entered_of}
 use Rattle.listing.specs.Text.{space, newline, decimal_of, field_of, joined}
 use Rattle.listing.specs.Listing.{refused_of, opened_row, refused_row, row_of, rows_from, rows_of}
@@ -66,16 +66,29 @@ module _ (file : List ℕ) (d : DescriptorNumbers) (addresses : List RecordNumbe
   abbrev pub rest : ℕ → ℕ → List ℕ
   rest k left = joined (rows_from file d addresses k left)
 
-  -- behind the first k of n rows: the next row, and those behind it
-  pub rest-next : (k n : ℕ) (x : Entered) → k < n → x ≡ entered_of file d addresses (record { 0 = k + 1 })
-      → rest (k + 1) (n - k) ≡ row_of (k + 1) x ++ rest (k + 1 + 1) (n - (k + 1))
+  -- those of n entries from entry `number` on
+  abbrev pub rest_up_to : ℕ → ℕ → List ℕ
+  rest_up_to n number = rest number (n + 1 - number)
+
+  -- they are the next row, and those behind it
+  pub rest-next : (n number : ℕ) (row : List ℕ) → number ≤ n → row ≡ row_of number (entered_of file d addresses (record { 0 = number }))
+      → rest_up_to n number ≡ row ++ rest_up_to n (number + 1)
   unfolding rows_from
-  rest-next k n x h q = let p : n - k ≡ suc (n - (k + 1)) = omega arith in rw (p, q)
+  rest-next n number row h q = let p : n + 1 - number ≡ suc (n + 1 - (number + 1)) = omega arith in rw (p, q) refl
 
   -- one row more of their length
-  pub length-next : (k n : ℕ) (x : Entered) → k < n → x ≡ entered_of file d addresses (record { 0 = k + 1 })
-      → length (rest (k + 1) (n - k)) ≡ length (row_of (k + 1) x) + length (rest (k + 1 + 1) (n - (k + 1)))
-  length-next k n x h q = ap length (rest-next k n x h q) ∙ length-append (row_of (k + 1) x) (rest (k + 1 + 1) (n - (k + 1)))
+  pub length-next : (n number : ℕ) (row : List ℕ) → number ≤ n → row ≡ row_of number (entered_of file d addresses (record { 0 = number }))
+      → length (rest_up_to n number) ≡ length row + length (rest_up_to n (number + 1))
+  length-next n number row h q = ap length (rest-next n number row h q) ∙ length-append row (rest_up_to n (number + 1))
+
+  -- behind the last there are none
+  pub rest-none : (n number : ℕ) → n < number → rest_up_to n number ≡ []
+  unfolding rows_from
+  rest-none n number h = let p : n + 1 - number ≡ 0 = omega arith in rw p refl
+
+  -- from the first on they are all
+  pub rest-all : (n : ℕ) → n ≡ entries_before d.xnext → rest_up_to n 1 ≡ joined (rows_of file d addresses)
+  rest-all n e = let p : n + 1 - 1 ≡ entries_before d.xnext = omega arith in rw p refl
 
   -- where no row is longer than most
   pub length_rest : (most k left : ℕ) → ((i : ℕ) → k ≤ i → i < k + left → length (row_of i (entered_of file d addresses (record { 0 = i }))) ≤ most)
@@ -99,6 +112,6 @@ module _ (file : List ℕ) (d : DescriptorNumbers) (addresses : List RecordNumbe
   pub rows-count : length (rows_of file d addresses) ≡ entries_before d.xnext
   rows-count = count-from 1 (entries_before d.xnext)
 
--- the rows from an entry on, by the addresses that the file has
+-- the rows of n entries from an entry on, by the addresses that the file has
 abbrev pub rest_of : List ℕ → DescriptorNumbers → ℕ → ℕ → List ℕ
-rest_of file d = rest file d (addresses_of file d.nex)
+rest_of file d = rest_up_to file d (addresses_of file d.nex)

@@ -8,7 +8,7 @@ use Rattle.descriptor.specs.declared.numbers.DescriptorNumbers.{DescriptorNumber
 use Rattle.descriptor.specs.declared.validating.Validated.{Validated}
 use Rattle.descriptor.specs.declared.validating.Validated.TheVariants.{Numbers, Refused}
 use Rattle.descriptor.specs.Answers.{validation_of}
-use Rattle.entry.specs.declared.entered.Entered.{Entered}
+use Rattle.entry.specs.Entered.{Entered}
 use Rattle.entry.specs.Opening.{entered_of}
 use Rattle.listing.specs.Buffer.{HandsOver}
 use Rattle.listing.specs.Text.{text, space, newline, decimal_of, field_of, joined}

@@ -4,11 +4,13 @@ ghost use Rattle.outcome.specs.Outcome.{Answers, Leaves};
 ghost use Rattle.image.specs.Image.{splice};
 ghost use Rattle.descriptor.specs.FirstRecord.{addresses_of};
 ghost use Rattle.descriptor.specs.Bounds.{AdmittedIn, TotalsOf};
+ghost use Rattle.entry.specs.Opening.{entered_of};
 ghost use Rattle.listing.specs.Text.{joined};
 ghost use Rattle.listing.specs.Buffer.{HandsOver};
-ghost use Rattle.listing.specs.Listing.{rows_of, entries_listing};
+ghost use Rattle.listing.specs.Listing.{row_of, rows_of, entries_listing};
 
-use super::rows::{put_row, row_length};
+use super::rows::{opened_row, refused_row};
+use super::text::Line;
 use descriptor::DescriptorNumbers;
 use entry::inner::enter;
 use geometry::{EntryNumber, entries_before};
@@ -16,19 +18,25 @@ use geometry::{EntryNumber, entries_before};
 // The bytes of the header.
 const HEADER_LENGTH: usize = 38;
 
+// The row of an entry, which is opened for it.
+fn row_at(file: &[u8], d: DescriptorNumbers, totals: &[u64], number: EntryNumber) -> Line
+    requires { AdmittedIn file.now d (addresses_of file.now d.nex) × TotalsOf d totals.now }
+    ensures { Answers (row_of number.0 (entered_of file.now d (addresses_of file.now d.nex) number)) result.bytes }
+{
+    match enter(file, d, totals, number) {
+        Ok(entered) => opened_row(number, entered),
+        Err(refusal) => refused_row(number, refusal.number()),
+    }
+}
+
 // The length of all rows together: each entry is opened, and its row measured.
 fn rows_length(file: &[u8], d: DescriptorNumbers, totals: &[u64]) -> usize
     requires { AdmittedIn file.now d (addresses_of file.now d.nex) × TotalsOf d totals.now }
     ensures { Answers (length (joined (rows_of file.now d (addresses_of file.now d.nex)))) result }
 {
-    let entries = entries_before(d.xnext);
     let mut sum = 0;
-    let mut measured = 0;
-    while measured < entries {
-        let number = EntryNumber(measured + 1);
-        let entered = enter(file, d, totals, number);
-        sum += row_length(number, entered);
-        measured += 1;
+    for number in 1..=entries_before(d.xnext) {
+        sum += row_at(file, d, totals, EntryNumber(number)).len();
     }
     sum
 }
@@ -39,14 +47,11 @@ fn put_rows(file: &[u8], d: DescriptorNumbers, totals: &[u64], out: &mut [u8], a
         × (at + length (joined (rows_of file.now d (addresses_of file.now d.nex))) ≤ length out.old) }
     ensures { Leaves (splice out.old at (joined (rows_of file.now d (addresses_of file.now d.nex)))) out.new }
 {
-    let entries = entries_before(d.xnext);
     let mut next = at;
-    let mut written = 0;
-    while written < entries {
-        let number = EntryNumber(written + 1);
-        let entered = enter(file, d, totals, number);
-        next = put_row(out, next, number, entered);
-        written += 1;
+    for entry in 1..=entries_before(d.xnext) {
+        let row = row_at(file, d, totals, EntryNumber(entry));
+        image::put(out, next, row.as_str().as_bytes());
+        next += row.len();
     }
 }
 

@@ -1,9 +1,9 @@
 // The listing of a file, and what the listing program prints of its input.
 ghost use Rattle.listing.specs.Buffer.{HandsOver};
-ghost use Rattle.listing.specs.Listing.{refused_file, Lists, Prints};
+ghost use Rattle.listing.specs.Listing.{Lists, Prints};
 
 use super::entries::list_entries;
-use super::rows::put_refused;
+use super::rows::refused_file;
 use descriptor::inner::admit;
 use descriptor::{Validated, refusal_of};
 
@@ -13,17 +13,15 @@ pub const INPUT_MAX: usize = 65536;
 // Bytes that hold what is printed of any input.
 pub const OUTPUT_ROOM: usize = 196608;
 
-// Writes the line of a refused file, if the buffer is long enough for it. The line is measured in one that is.
-fn list_refused(refusal: u32, out: &mut [u8]) -> usize
-    ensures { HandsOver (refused_file refusal) out.old result out.new }
+// Writes bytes to the start of a lent buffer, if it is long enough for them.
+fn hand_over(bytes: &[u8], out: &mut [u8]) -> usize
+    ensures { HandsOver bytes.now out.old result out.new }
 {
-    let mut line = [0u8; 34];
-    let count = put_refused(&mut line, 4, refusal);
-    if out.len() < count {
+    if out.len() < bytes.len() {
         return 0;
     }
-    image::put(out, 0, b"file");
-    put_refused(out, 4, refusal)
+    image::put(out, 0, bytes);
+    bytes.len()
 }
 
 // Writes the listing of a file to the start of a lent buffer and answers its length; a buffer that is too
@@ -34,7 +32,7 @@ pub fn list_file(file: &[u8], out: &mut [u8]) -> usize
     let mut totals = [0u64; 16];
     let case = admit(file, &mut totals);
     let Validated::Numbers(d) = case else {
-        return list_refused(refusal_of(case), out);
+        return hand_over(refused_file(refusal_of(case)).as_str().as_bytes(), out);
     };
     list_entries(file, d, &totals, out)
 }

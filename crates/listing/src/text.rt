@@ -1,26 +1,30 @@
-// Writing numbers as decimal text.
-ghost use Rattle.std.specs.Prelude.{◌+◌, ◌≤◌, length};
-ghost use Rattle.outcome.specs.Outcome.{AnswersAndLeaves};
-ghost use Rattle.image.specs.Image.{splice};
+// A line of a listing as text of its own, which grows behind its end.
+ghost use Rattle.std.specs.Prelude.{◌≡◌, ◌+◌, ◌≤◌, ◌<◌, ◌^◌, ◌++◌, [], ◌∷◌};
 ghost use Rattle.listing.specs.Text.{decimal_of, field_of};
+ghost use Rattle.arrayvec.specs.ArrayString.{array_string_len};
 
-// Writes a number's digits from offset `at` on, and answers the offset behind them.
-pub(crate) fn put_decimal(out: &mut [u8], at: usize, n: u64) -> usize
-    requires { at + length (decimal_of n) ≤ length out.old }
-    ensures { AnswersAndLeaves (at + length (decimal_of n)) (splice out.old at (decimal_of n)) result out.new }
+use arrayvec::ArrayString;
+use itoa::Buffer;
+
+// Room for the longest line: six fields of 20 digits and the byte that ends each.
+pub(crate) type Line = ArrayString<126>;
+
+// Puts a number's digits behind a line.
+pub(crate) fn push_decimal(line: &mut Line, n: u64)
+    requires { array_string_len line.old + 20 ≤ 126 }
+    ensures text { line.new.bytes ≡ line.old.bytes ++ decimal_of n }
+    ensures short { array_string_len line.new ≤ array_string_len line.old + 20 }
 {
-    let mut digits = [0u8; 20];
-    let count = io::decimal(n, &mut digits);
-    image::put(out, at, &digits[..count]);
-    at + count
+    line.push_str(Buffer::new().format(n));
 }
 
-// Writes a number and the byte that ends it from offset `at` on, and answers the offset behind them.
-pub(crate) fn put_field(out: &mut [u8], at: usize, n: u64, end: u8) -> usize
-    requires { at + length (field_of n end) ≤ length out.old }
-    ensures { AnswersAndLeaves (at + length (field_of n end)) (splice out.old at (field_of n end)) result out.new }
+// Puts a number and the character that ends it behind a line.
+pub(crate) fn push_field(line: &mut Line, n: u64, end: char)
+    requires room { array_string_len line.old + 21 ≤ 126 }
+    requires ascii { end < 128 }
+    ensures text { line.new.bytes ≡ line.old.bytes ++ field_of n end }
+    ensures short { array_string_len line.new ≤ array_string_len line.old + 21 }
 {
-    let behind = put_decimal(out, at, n);
-    image::put(out, behind, &[end]);
-    behind + 1
+    push_decimal(line, n);
+    line.push(end);
 }

@@ -1,10 +1,15 @@
 -- What each contract determines: two outcomes of a call that both meet its contract are equal, the answer, a lent record and each lent byte. Every contract of a public
 -- function is one of the relations here, or is an answer alone or bytes alone as a definition has them (`one_answer` and `one-file` of `outcome`). Assumes nothing.
+use Rattle.std.specs.Prelude.{Result}
 use Prim.Native.Nat.{ℕ}
 use mathlib.Core.Path.{◌≡◌, sym, ◌∙◌}
 use mathlib.Core.List.{List}
+use lib.ListN.{length}
 use denote.Ref.{Bor}
+use Rattle.outcome.specs.declared.refusal.Refusal.{Refusal}
 use Rattle.outcome.proofs.Determined.{one_answer, one-file, one-outcome}
+use Rattle.outcome.proofs.Refusals.{one-given}
+use Rattle.geometry.specs.declared.units.EntryNumber.{EntryNumber}
 use Rattle.descriptor.specs.declared.numbers.Settings.{Settings}
 use Rattle.descriptor.specs.declared.numbers.DescriptorNumbers.{DescriptorNumbers}
 use Rattle.handing.specs.declared.place.PartPlace.{PartPlace}
@@ -12,6 +17,7 @@ use Rattle.handing.specs.Parts.{IsPart}
 use Rattle.writer.specs.declared.answers.Appended.{Appended}
 use Rattle.writer.specs.Creation.{Creates}
 use Rattle.storing.specs.Handed.{Handed}
+use Rattle.writer.specs.Rules.{append_refusal}
 use Rattle.writer.specs.Answers.{Appends, AppendsFrom}
 use Rattle.batch.specs.declared.answers.Batched.{Batched}
 use Rattle.batch.specs.Batch.{Batch}
@@ -33,9 +39,9 @@ pub append-determined : (file : List ℕ) (h : Handed) (p q : Appended) (f g : L
 append-determined file h p q f g a b = one-outcome a b
 
 -- and one to admitted numbers
-pub append-from-determined : (file : List ℕ) (d : DescriptorNumbers) (h : Handed) (p q : Appended) (f g : List ℕ)
+pub append-from-determined : (file : List ℕ) (d : DescriptorNumbers) (h : Handed) (p q : Result EntryNumber Refusal) (f g : List ℕ)
     → AppendsFrom file d h p f → AppendsFrom file d h q g → (p ≡ q) × (f ≡ g)
-append-from-determined file d h p q f g a b = one-outcome a b
+append-from-determined file d h p q f g a b = (one-given (append_refusal (length file) d h) d.xnext p q a.0 b.0, one-file a.1 b.1)
 
 -- and appends in turn
 pub in-turn-determined : (file : List ℕ) (hs : List Handed) (p q : Batched) (f g : List ℕ) → AppendsInTurn file hs p f → AppendsInTurn file hs q g → (p ≡ q) × (f ≡ g)

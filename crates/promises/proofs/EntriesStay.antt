@@ -15,7 +15,7 @@ use Rattle.layout.specs.EntryWords.{descriptor_words}
 use Rattle.geometry.proofs.Slots.{slots_apart}
 use Rattle.descriptor.specs.declared.numbers.DescriptorNumbers.{DescriptorNumbers}
 use Rattle.descriptor.specs.FirstRecord.{growth_in, free_of}
-use Rattle.entry.specs.declared.entered.Entered.{Entered}
+use Rattle.entry.specs.Entered.{Entered}
 use Rattle.entry.specs.Opening.{slot_position_of, entry_refusal, entered_of}
 use Rattle.entry.proofs.Entering.{slot-in-use, slot-inside, slot-low, entry-opens, entered-numbers}
 use Rattle.alike.proofs.EntryFields.{bytes_same}

@@ -18,7 +18,7 @@ use Rattle.layout.specs.FirstRecordWords.{after_aex}
 use Rattle.layout.specs.FileCode.{byte_order_of}
 use Rattle.descriptor.specs.declared.numbers.Settings.{Settings}
 use Rattle.descriptor.specs.declared.numbers.DescriptorNumbers.{DescriptorNumbers}
-use Rattle.descriptor.specs.FirstRecord.{field4, numbers_of}
+use Rattle.descriptor.specs.FirstRecord.{field, field4, numbers_of}
 use Rattle.descriptor.specs.Rules.{no_leftovers, file_refusal}
 use Rattle.descriptor.proofs.Answered.{file-passed, file-admitted}
 use Rattle.storing.specs.Handed.{Handed}
@@ -51,7 +51,7 @@ module _ (file : List ℕ) (d : DescriptorNumbers) (room : 14 + 2 * d.nex ≤ d.
   start = first_record_offset_of (after_aex d.nex)
 
   word-zero : (w : ℕ) → eqb (field4 file (record { 0 = w })) 0 ≡ all_zero (part file (4 * (w - 1)) 4)
-  unfolding field4
+  unfolding field
   word-zero w = bits-zero (byte_order_of file) w32 file (4 * (w - 1))
 
   -- where the rule holds, every word after the addresses in use is zero

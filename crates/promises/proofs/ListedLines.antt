@@ -15,7 +15,7 @@ use Rattle.geometry.specs.declared.units.RecordNumber.{RecordNumber}
 use Rattle.descriptor.specs.declared.numbers.DescriptorNumbers.{DescriptorNumbers}
 use Rattle.descriptor.specs.Rules.{file_refusal}
 use Rattle.descriptor.proofs.Answered.{answer-numbers}
-use Rattle.entry.specs.declared.entered.Entered.{Entered}
+use Rattle.entry.specs.Entered.{Entered}
 use Rattle.entry.specs.Opening.{entered_of}
 use Rattle.outcome.proofs.Either.{either}
 use Rattle.listing.specs.Text.{text, space, newline, decimal_in, decimal_of, field_of, joined}

@@ -14,7 +14,7 @@ use Rattle.layout.specs.FileCode.{byte_order_of}
 use Rattle.descriptor.specs.Rules.{file_refusal}
 use Rattle.descriptor.proofs.Answered.{file-order}
 use Rattle.entry.specs.declared.answers.Opened.{Opened}
-use Rattle.entry.specs.declared.entered.Entered.{Entered}
+use Rattle.entry.specs.Entered.{Entered}
 use Rattle.layout.specs.EntryWords.{first_content}
 use Rattle.entry.specs.Answers.{open_case}
 use Rattle.entry.proofs.Entering.{entered-numbers}

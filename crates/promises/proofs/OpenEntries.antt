@@ -14,7 +14,7 @@ use Rattle.pieces.specs.declared.contents.Piece.{Piece}
 use Rattle.pieces.specs.EntryDescriptor.{identifier_at, section_of}
 use Rattle.pieces.specs.Tables.{section_identifiers, section_lengths, section_addresses, sections_of}
 use Rattle.pieces.proofs.Pieces.{Placed, section-placed}
-use Rattle.entry.specs.declared.entered.Entered.{Entered}
+use Rattle.entry.specs.Entered.{Entered}
 use Rattle.entry.specs.declared.answers.Open.TheVariants as answers
 use Rattle.entry.specs.Opening.{place_stored, slot_position_of, entry_refusal, entered_at}
 use Rattle.entry.specs.Answers.{opened_as, open_of, data_place_of}

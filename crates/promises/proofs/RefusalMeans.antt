@@ -24,7 +24,7 @@ use Rattle.descriptor.specs.Answers.{no_validation, validation_of, extension_in,
 use Rattle.descriptor.proofs.Refusals.{refusal_is, refusal-given, refusal-none, all_hold, refusal-append}
 use Rattle.descriptor.proofs.Answered.{answer-numbers, answer-refused}
 use Rattle.pieces.specs.Tables.{section_named}
-use Rattle.entry.specs.declared.entered.Entered.{Entered}
+use Rattle.entry.specs.Entered.{Entered}
 use Rattle.entry.specs.declared.answers.Opened.{Opened}
 use Rattle.entry.specs.Opening.{entry_refusal, entered_of, not_entered}
 use Rattle.entry.specs.Answers.{entered_in, opened_as, open_of, open_case}

@@ -21,7 +21,7 @@ use Rattle.descriptor.specs.declared.validating.Validated.TheVariants.{Numbers, 
 use Rattle.descriptor.specs.Rules.{file_refusal}
 use Rattle.descriptor.specs.Answers.{no_validation, validation_of, no_extension, extension_in, extension_of}
 use Rattle.pieces.specs.Tables.{section_named, no_sections}
-use Rattle.entry.specs.declared.entered.Entered.{Entered}
+use Rattle.entry.specs.Entered.{Entered}
 use Rattle.entry.specs.declared.answers.Open.TheVariants as answers
 use Rattle.entry.specs.Opening.{entered_of}
 use Rattle.entry.specs.Answers.{entered_in, opened_as, open_of, open_case}

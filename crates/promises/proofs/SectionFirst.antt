@@ -12,7 +12,7 @@ use Rattle.geometry.specs.declared.units.EntryNumber.{EntryNumber}
 use Rattle.descriptor.specs.declared.numbers.DescriptorNumbers.{DescriptorNumbers}
 use Rattle.pieces.specs.EntryDescriptor.{identifier_at, section_of}
 use Rattle.pieces.specs.Tables.{same_integer, section_named}
-use Rattle.entry.specs.declared.entered.Entered.{Entered}
+use Rattle.entry.specs.Entered.{Entered}
 use Rattle.entry.proofs.Entering.{entered-numbers}
 use Rattle.handing.specs.Parts.{no_part, piece_from, section_part, part_in, section_words_of}
 use Rattle.outcome.proofs.Either.{either}

@@ -14,7 +14,7 @@ use Rattle.geometry.specs.Area.{slot_of}
 use Rattle.layout.specs.FileCode.{byte_order_of}
 use Rattle.descriptor.specs.declared.numbers.DescriptorNumbers.{DescriptorNumbers}
 use Rattle.descriptor.specs.FirstRecord.{growth_in, free_of}
-use Rattle.entry.specs.declared.entered.Entered.{Entered}
+use Rattle.entry.specs.Entered.{Entered}
 use Rattle.entry.specs.Opening.{end_of}
 use Rattle.alike.proofs.Described.{opens-there, entered-there}
 use Rattle.alike.proofs.Agreeing.{Agrees}

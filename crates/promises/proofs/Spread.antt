@@ -12,7 +12,7 @@ use Rattle.geometry.specs.Units.{position_of, entries_before}
 use Rattle.descriptor.specs.declared.numbers.DescriptorNumbers.{DescriptorNumbers}
 use Rattle.descriptor.specs.FirstRecord.{free_of}
 use Rattle.descriptor.specs.Bounds.{Admitted}
-use Rattle.entry.specs.declared.entered.Entered.{Entered}
+use Rattle.entry.specs.Entered.{Entered}
 use Rattle.entry.specs.Opening.{slot_position_of, place_stored, entry_refusal, entered_of, end_of}
 use Rattle.entry.proofs.Entering.{entry-opens, entered-numbers}
 use Rattle.descriptor.specs.Areas.{area_start_of, area_end_of}

@@ -6,11 +6,11 @@ use Rattle.words.specs.Range.{within, at_least}
 use Rattle.words.specs.Code.{same_numbers}
 use Rattle.geometry.specs.Computing.{computing}
 use Rattle.layout.specs.FileCode.{file_code, order_said, file_code_of}
-use Rattle.descriptor.specs.FirstRecord.{field4, field8, numbers_of, created_of, addresses_of, mex_of}
+use Rattle.descriptor.specs.FirstRecord.{field, numbers_of, created_of, addresses_of, mex_of}
 use Rattle.descriptor.specs.Areas.{area_after, areas_start, areas_end}
 use Rattle.descriptor.specs.Rules.{entries_fit, no_leftovers, file_refusal}
 use Rattle.descriptor.specs.Answers.{validation_of}
-use Rattle.pieces.specs.EntryDescriptor.{entry_code_of, word4, word8, section_of, data_of}
+use Rattle.pieces.specs.EntryDescriptor.{entry_code_of, word_of, section_of, data_of}
 use Rattle.pieces.specs.Contents.{piece_within, data_within, sections_within, apart, apart_from, sections_apart, data_apart}
 use Rattle.pieces.specs.Tables.{section_identifiers, section_lengths, section_addresses, sections_of, same_integer, section_named}
 use Rattle.entry.specs.Opening.{place_stored, slot_position_of, entry_refusal, entered_of}
@@ -43,8 +43,8 @@ a & b = (a, b)
 -- what the theorems below see through: to unfold this is to unfold all that it names
 seen : Unit {0}
 unfolding part splice zeros all_zero little_number little_numeral arranged number numeral bits_at within at_least same_numbers
-    computing file_code order_said file_code_of field4 field8 numbers_of created_of addresses_of mex_of entries_fit area_after areas_start areas_end no_leftovers file_refusal validation_of
-    entry_code_of word4 word8 section_of data_of piece_within data_within sections_within apart apart_from sections_apart data_apart
+    computing file_code order_said file_code_of field numbers_of created_of addresses_of mex_of entries_fit area_after areas_start areas_end no_leftovers file_refusal validation_of
+    entry_code_of word_of section_of data_of piece_within data_within sections_within apart apart_from sections_apart data_apart
     section_addresses section_identifiers section_lengths sections_of same_integer section_named
     place_stored slot_position_of entry_refusal entered_of entered_in opened_as open_of section_part data_part part_in
     first_written creation_refusal created_file absent distinct positive append_refusal

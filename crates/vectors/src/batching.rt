@@ -1,158 +1,98 @@
 // The call that appends a batch of entries.
-ghost use Rattle.std.specs.Prelude.{◌≡◌, ◌<◌, ◌≤◌, length};
+use super::Run;
+use super::command::Way;
+use super::holding::{Held, end_call};
+use super::lists::{Handed, Lists, MOST};
+use super::printing::Case;
+use super::reading::{Label, Reader, at_most, int4s};
+use classic::{Batched, OpenFile, append_batch, append_batch_through};
+use std::alloc::{AllocError, Global};
+use std::io;
 
-use super::files::save;
-use super::holding::{end_call, left, read_record};
-use super::lists::{COUNTS, VERSIONS, at_most, ends, labelled, labelled_integers, read_lists};
-use super::printing::{BATCH, Lines};
-use super::reading::bits_at;
-use super::writing::compared;
-use classic::{Batched, append_batch, append_batch_through};
-
-// A row of the counts listed, one row after another: zeros past their end.
-fn row(values: &[i64], i: usize) -> [u64; 5]
-    requires { i < 65 }
-{
-    let at = 5 * i;
-    [
-        bits_at(values, at),
-        bits_at(values, at + 1),
-        bits_at(values, at + 2),
-        bits_at(values, at + 3),
-        bits_at(values, at + 4),
-    ]
-}
-
-// Takes the numbers of a list as rows of counts.
-fn rows(values: &[i64], counts: &mut [[u64; 5]])
-    requires { length counts.old ≡ 65 }
-{
-    for i in 0..65 {
-        let counted = row(values, i);
-        counts[i] = counted;
+// The numbers of a list as counts, with zeros behind them.
+fn padded(alloc: Global, numbers: &[i64], count: usize) -> Result<Vec<u64>, AllocError> {
+    let mut counts = Vec::new(alloc);
+    for number in numbers {
+        counts.push(number.cast_unsigned())?;
     }
+    counts.resize(count, 0)?;
+    Ok(counts)
 }
 
-// Appends a batch, through the record held or without it, with identifiers, lengths, and the bytes of the index, the
-// sections and the data one after another.
-fn batch_parts(
-    lines: &mut Lines,
-    record: &mut [u8],
-    numbers: &[i64],
-    bytes: &[u8],
+// Appends a batch, through the record held or without it.
+fn append_rows(
+    way: Way,
+    held: &mut Held,
+    file: &mut [u8],
     versions: &[i32],
-    counts: &[[u64; 5]],
-    ids: &[i32],
-    lengths: &[i64],
-    file: &mut [u8],
-) -> Batched
-    requires { 816 ≤ length bytes.now }
-{
-    let parts = ends(lines, numbers, 2);
-    let i = parts.index;
-    let s = parts.sections;
-    let d = parts.values;
-    let index = &bytes[0..i];
-    let sections = &bytes[i..s];
-    let array = &bytes[s..d];
-    if record.len() == 0 {
-        return append_batch(file, versions, counts, index, ids, lengths, sections, array);
-    }
-    let held = read_record(record);
-    let made = append_batch_through(
-        held, file, versions, counts, index, ids, lengths, sections, array,
-    );
-    let after = made.held;
-    left(held, after, record);
-    made.answer
-}
-
-// Appends a batch with versions and rows of counts.
-fn batch_rows(
-    lines: &mut Lines,
-    record: &mut [u8],
-    numbers: &[i64],
-    lists: &[u8],
-    at: usize,
-    versions: &[i32],
-    counts: &[[u64; 5]],
-    file: &mut [u8],
+    rows: &[[u64; 5]],
+    handed: Handed,
 ) -> Batched {
-    let mut ids = [0i32; 65];
-    let mut lengths = [0i64; 65];
-    let mut bytes = [0u8; 816];
-    let listed = read_lists(lines, lists, at, &mut ids, &mut lengths, &mut bytes);
-    let named = listed.ids;
-    let measured = listed.lengths;
-    batch_parts(
-        lines,
-        record,
-        numbers,
-        &bytes,
-        versions,
-        counts,
-        &ids[0..named],
-        &lengths[0..measured],
-        file,
-    )
-}
-
-// Appends the batch that a line hands in: how many versions and rows, the bytes of index, sections and data, then lists
-// behind their labels.
-fn batch_line(
-    lines: &mut Lines,
-    record: &mut [u8],
-    numbers: &[i64],
-    lists: &[u8],
-    file: &mut [u8],
-) -> Batched {
-    let mut versions = [0i32; 65];
-    let mut values = [0i64; 325];
-    let mut counts = [[0u64; 5]; 65];
-    let versioned = labelled_integers(lines, lists, 0, VERSIONS, &mut versions);
-    let counted = labelled(lists, versioned.next, COUNTS, &mut values);
-    rows(&values, &mut counts);
-    let entries = at_most(lines, 65, bits_at(numbers, 0));
-    let count = at_most(lines, 65, bits_at(numbers, 1));
-    batch_rows(
-        lines,
-        record,
-        numbers,
-        lists,
-        counted.next,
-        &versions[0..entries],
-        &counts[0..count],
-        file,
-    )
-}
-
-// Writes the line of a batch: how many entries were accepted, the refusal, and where there were none whether bytes
-// changed.
-fn batched(lines: &mut Lines, name: &[u8], answer: Batched, room: &[u8], lent: usize)
-    requires { lent ≤ 789176 }
-{
-    lines.print(BATCH, answer.refusal as u64, name, answer.accepted, 0, 0, 0);
-    if answer.accepted == 0 {
-        compared(lines, name, room, 0, lent);
+    let Handed {
+        ids,
+        lengths,
+        index,
+        sections,
+        values,
+    } = handed;
+    match way {
+        Way::Alone => append_batch(file, versions, rows, index, ids, lengths, sections, values),
+        Way::Through => {
+            let before = OpenFile::from(*held);
+            let appended = append_batch_through(
+                before, file, versions, rows, index, ids, lengths, sections, values,
+            );
+            *held = Held::from(appended.held);
+            appended.answer
+        }
     }
 }
 
-// Appends a batch to the lent bytes: the line of a case that has a name, or of a refusal.
-pub(crate) fn batch_in(
-    lines: &mut Lines,
-    record: &mut [u8],
-    numbers: &[i64],
-    lists: &[u8],
-    name: &[u8],
-    room: &mut [u8],
-    lent: usize,
-)
-    requires { (length room.old ≡ 1623632) × (lent ≤ 789176) }
-{
-    save(room, lent);
-    let answer = batch_line(lines, record, numbers, lists, &mut room[0..lent]);
-    if name.len() != 0 || answer.refusal != 0 {
-        batched(lines, name, answer, room, lent);
-        end_call(lines, name, record, &room[0..lent]);
+impl Run {
+    // Writes the line of a batch: how many entries were accepted, the refusal, and where there were none whether bytes changed.
+    fn batched(&self, case: Case, answer: Batched, before: &[u8]) -> io::Result<()> {
+        case.begin("batch")?;
+        print!(case.out; " accepted {}", answer.accepted)?;
+        if answer.refusal != 0 {
+            print!(case.out; " refused {}", answer.refusal)?;
+        }
+        if answer.accepted == 0 {
+            self.room.compare(case.out, before, 0)?;
+        }
+        Ok(())
+    }
+
+    // Appends a batch: the line of a case that has a name, or of a refusal. The line hands in how many versions and rows of
+    // counts, the bytes of index, sections and data, then lists behind their labels.
+    pub(crate) fn batch(
+        &mut self,
+        case: Case,
+        way: Way,
+        versions: i64,
+        rows: i64,
+        counts: [i64; 3],
+        lists: Reader,
+    ) -> io::Result<()> {
+        let mut lists = lists;
+        let bytes_before = self.room.copy(self.alloc)?;
+        let held_before = self.held;
+        let listed = lists.list(self.alloc, Label::Versions, MOST)?;
+        let mut all = int4s(case.out, self.alloc, &listed)?;
+        all.resize(at_most(case.out, MOST, versions)?, 0)?;
+        let listed = lists.list(self.alloc, Label::Counts, 5 * MOST)?;
+        let table = padded(self.alloc, &listed, 5 * at_most(case.out, MOST, rows)?)?;
+        let rows = table.as_chunks::<5>().0;
+        let lists = Lists::read(case.out, self.alloc, lists)?;
+        let handed = lists.handed(case.out, counts)?;
+        let mut held = held_before;
+        let lent = self.room.lent.count;
+        let file = &mut self.room.bytes[..lent];
+        let answer = append_rows(way, &mut held, file, &all, rows, handed);
+        self.held = held;
+        if case.name.is_empty() && answer.refusal == 0 {
+            return Ok(());
+        }
+        self.batched(case, answer, &bytes_before)?;
+        end_call(case, way, held_before, self.held, self.room.file())
     }
 }

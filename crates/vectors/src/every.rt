@@ -1,69 +1,54 @@
 // Every call on one file.
-ghost use Rattle.std.specs.Prelude.{◌≡◌, ◌≤◌, length};
-
-use super::files::save;
-use super::printing::{EVERY, EVERY_END, EVERY_ON, Lines};
-use super::writing::{append_line, compared};
+use super::Run;
+use super::printing::Case;
 use classic::{
-    EntryNumber, ExtensionNumber, Open, check_order, data_array_refusal, extension_of,
+    EntryNumber, ExtensionNumber, Open, append, check_order, data_array_refusal, extension_of,
     index_words_refusal, open_entry, section_refusal, validate,
 };
+use std::io;
 
 // The refusal of an open, 0 for numbers.
-fn open_refusal(file: &[u8], asked: u64) -> u32 {
-    let answer = open_entry(file, EntryNumber(asked)).answer;
-    match answer {
-        Open::Numbers(_, _, _, _, _) => 0,
+fn open_refusal(file: &[u8], number: EntryNumber) -> u32 {
+    match open_entry(file, number).answer {
+        Open::Numbers(..) => 0,
         Open::Refused(refusal) => refusal,
     }
 }
 
-// Writes the refusals of the first calls that read.
-fn openings(lines: &mut Lines, name: &[u8], file: &[u8], asked: u64) {
-    let extension = extension_of(file, ExtensionNumber(asked)).refusal;
-    let index = index_words_refusal(file, EntryNumber(asked));
-    lines.print(
-        EVERY,
-        0,
-        name,
-        validate(file).refusal as u64,
-        extension as u64,
-        open_refusal(file, asked) as u64,
-        index as u64,
-    );
-}
-
-// Writes the refusals of the other calls that read.
-fn readings(lines: &mut Lines, name: &[u8], file: &[u8], asked: u64) {
-    let section = section_refusal(file, EntryNumber(asked), 7);
-    let array = data_array_refusal(file, EntryNumber(asked));
+// Writes the refusals of the calls that read; 0 stands for accepted.
+fn print_refusals(case: Case, file: &[u8], asked: u64) -> io::Result<()> {
+    let number = EntryNumber(asked);
+    case.begin("every call,")?;
+    print!(case.out; " validate {}", validate(file).refusal)?;
+    print!(case.out;
+        " extension {}",
+        extension_of(file, ExtensionNumber(asked)).refusal
+    )?;
+    print!(case.out; " open {}", open_refusal(file, number))?;
+    print!(case.out; " index {}", index_words_refusal(file, number))?;
+    print!(case.out; " section {}", section_refusal(file, number, 7))?;
+    print!(case.out; " data {}", data_array_refusal(file, number))?;
     let checked = check_order(file);
-    lines.print(
-        EVERY_ON,
-        0,
-        name,
-        section as u64,
-        array as u64,
-        checked.entry.0,
-        checked.refusal as u64,
-    );
+    print!(case.out; " check {} {}", checked.entry.0, checked.refusal)
 }
 
-// Every call on the lent bytes, for entry and extension `asked`; 0 stands for accepted.
-pub(crate) fn every_in(lines: &mut Lines, asked: u64, name: &[u8], room: &mut [u8], lent: usize)
-    requires { (length room.old ≡ 1623632) × (lent ≤ 789176) }
-{
-    openings(lines, name, &room[0..lent], asked);
-    readings(lines, name, &room[0..lent], asked);
-    save(room, lent);
-    let answer = append_line(
-        lines,
-        &mut [],
-        &[1, 4, 0, 0],
-        b" words 9",
-        &mut room[0..lent],
-    );
-    lines.print(EVERY_END, 0, name, answer.refusal as u64, 0, 0, 0);
-    compared(lines, name, room, 0, lent);
-    lines.end(name);
+impl Run {
+    // Every call on the lent bytes, for an entry and an extension of one number.
+    pub(crate) fn every(&mut self, case: Case, asked: u64) -> io::Result<()> {
+        print_refusals(case, self.room.file(), asked)?;
+        let before = self.room.copy(self.alloc)?;
+        let lent = self.room.lent.count;
+        let appended = append(
+            &mut self.room.bytes[..lent],
+            1,
+            &[9, 0, 0, 0],
+            &[],
+            &[],
+            &[],
+            &[],
+        );
+        print!(case.out; " append {}", appended.refusal)?;
+        self.room.compare(case.out, &before, 0)?;
+        println!(case.out)
+    }
 }

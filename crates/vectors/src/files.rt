@@ -1,147 +1,195 @@
-// The room: the bytes of the file that the calls are made on, the bytes saved before a call, and the files kept.
-ghost use Rattle.std.specs.Prelude.{◌≡◌, ◌+◌, ◌≤◌, length};
+// The room: the bytes of the file that the calls are made on, and the files that are kept.
+ghost use Rattle.std.specs.Prelude.{◌+◌, ◌≤◌, length, IfOk};
 
-use super::printing::Lines;
-use super::reading::{bits_at, byte_at, bytes_of, int4, least};
-use words::ByteOrder;
+use super::command::Width;
+use super::printing::wrong;
+use super::reading::{at_most, int4};
+use std::alloc::{AllocError, Global};
+use std::io::{self, Stdout};
 
 // The most bytes of a file, those of P9.
-pub(crate) const FILE: usize = 789176;
+const FILE: usize = 789176;
 
 // The bytes behind the lent ones that are looked at too.
 const BEHIND: usize = 16400;
 
-// Where the bytes saved before a call start.
-const SAVED: usize = 805576;
+// The bytes of the longest file and those behind it.
+const WATCHED: usize = FILE + BEHIND;
 
-// Where the files that are kept start.
-const KEPT: usize = 1611152;
+// The bytes of a file that is kept.
+const SMALL: usize = 480;
 
-// How many bytes the room has.
-pub(crate) const ROOM: usize = 1623632;
+// How many bytes are lent to the calls. The bound stands in a struct of its own, since a struct with a ghost field does not lend its
+// array.
+#[derive(Clone, Copy)]
+pub(crate) struct Lent {
+    pub(crate) count: usize,
+    ghost within: { count ≤ 789176 },
+}
 
-// Copies bytes of the room.
-fn copy(room: &mut [u8], from: usize, to: usize, count: usize)
-    requires { (from + count ≤ length room.old) × (to + count ≤ length room.old) }
+// The bytes that a file is made in, of which the first are lent, and a file kept for each letter.
+#[derive(Drop)]
+pub(crate) struct Room {
+    pub(crate) bytes: [u8; WATCHED],
+    pub(crate) lent: Lent,
+    kept: [[u8; SMALL]; 26],
+}
+
+// Which letter of the alphabet stands behind a space. Anything else makes the line wrong, and A stands in its place.
+fn letter(out: Stdout, text: &[u8]) -> io::Result<usize>
+    ensures { IfOk result (λ n. n ≤ 25) }
 {
-    for i in 0..count {
-        room[to + i] = room[from + i];
+    match text {
+        [_, letter @ b'A'..=b'Z'] => Ok(usize::from(*letter - b'A')),
+        _ => {
+            wrong(out)?;
+            Ok(0)
+        }
     }
 }
 
-// Saves the lent bytes and some behind them.
-pub(crate) fn save(room: &mut [u8], lent: usize)
-    requires { (length room.old ≡ 1623632) × (lent ≤ 789176) }
-{
-    copy(room, 0, SAVED, lent + BEHIND);
-}
-
-// Whether bytes changed since they were saved, from an offset on.
-pub(crate) fn changed(room: &[u8], first: usize, lent: usize) -> bool
-    requires { lent ≤ 789176 }
-{
-    let from = least(first, BEHIND);
-    let bytes = bytes_of(room, from, lent + BEHIND);
-    let saved = bytes_of(room, SAVED + from, SAVED + lent + BEHIND);
-    bytes != saved
-}
-
-// Where the file of a letter is kept.
-fn kept_at(lines: &mut Lines, letter: &[u8]) -> usize
-    ensures { result ≤ 1623152 }
-{
-    let byte = byte_at(letter, 1);
-    if letter.len() != 2 {
-        lines.wrong();
-        KEPT
-    } else if byte < b'A' {
-        lines.wrong();
-        KEPT
-    } else if b'Z' < byte {
-        lines.wrong();
-        KEPT
-    } else {
-        KEPT + 480 * (byte - b'A') as usize
-    }
-}
-
-// Keeps a file of 480 bytes under a letter.
-pub(crate) fn keep(lines: &mut Lines, room: &mut [u8], letter: &[u8])
-    requires { length room.old ≡ 1623632 }
-{
-    copy(room, 0, kept_at(lines, letter), 480);
-}
-
-// Takes a file of 480 bytes that was kept.
-pub(crate) fn take(lines: &mut Lines, room: &mut [u8], letter: &[u8])
-    requires { length room.old ≡ 1623632 }
-{
-    copy(room, kept_at(lines, letter), 0, 480);
-}
-
-// Fills bytes with one.
-pub(crate) fn fill(room: &mut [u8], count: usize, byte: u64)
-    requires { count ≤ length room.old }
-{
-    for i in 0..count {
-        room[i] = (byte % 256) as u8;
-    }
-}
-
-// The order in which numbers are written over a file: big where the second byte is that of a big file's code, also in a
-// code that is neither.
-fn order_of(file: &[u8]) -> ByteOrder {
-    ByteOrder((byte_at(file, 1) == 0x42) as u64)
-}
-
-// Writes a number of 1, 4 or 8 bytes at an offset.
-fn put_one(lines: &mut Lines, order: ByteOrder, file: &mut [u8], at: usize, width: usize, bits: u64)
+// Writes a number of so many bytes at an offset, the most significant byte first where the order is big.
+fn put(
+    out: Stdout,
+    file: &mut [u8],
+    at: usize,
+    width: Width,
+    big: bool,
+    number: i64,
+) -> io::Result<usize>
     requires { at + 8 ≤ length file.old }
+    ensures { IfOk result (λ n. n ≤ at + 8) }
 {
     match width {
-        1 => file[at] = (bits % 256) as u8,
-        4 => words::put_i32(order, file, at, int4(lines, bits)),
-        _ => words::put_u64(order, file, at, bits),
+        Width::One => {
+            file[at] = number.to_le_bytes()[0];
+            Ok(at + 1)
+        }
+        Width::Four => {
+            let number = int4(out, number)?;
+            let bytes = if big {
+                number.to_be_bytes()
+            } else {
+                number.to_le_bytes()
+            };
+            file[at..at + 4].copy_from_slice(&bytes);
+            Ok(at + 4)
+        }
+        Width::Eight => {
+            let bytes = if big {
+                number.to_be_bytes()
+            } else {
+                number.to_le_bytes()
+            };
+            file[at..at + 8].copy_from_slice(&bytes);
+            Ok(at + 8)
+        }
     }
 }
 
-// Writes the numbers of a list one after another.
-pub(crate) fn put_all(
-    lines: &mut Lines,
-    order: ByteOrder,
+// Writes numbers one after another from an offset on, as long as eight bytes follow. Where they do not, the line is wrong.
+fn put_all(
+    out: Stdout,
     file: &mut [u8],
     from: usize,
-    width: usize,
-    values: &[i64],
-) {
+    width: Width,
+    big: bool,
+    numbers: &[i64],
+) -> io::Result<()> {
     let mut at = from;
-    for i in 0..values.len() {
-        if file.len() < 8 {
-            return lines.wrong();
+    for number in numbers {
+        if file.len() < 8 || file.len() - 8 < at {
+            return wrong(out);
         }
-        if file.len() - 8 < at {
-            return lines.wrong();
-        }
-        put_one(lines, order, file, at, width, bits_at(values, i));
-        at = at.wrapping_add(width);
+        at = put(out, file, at, width, big, *number)?;
     }
+    Ok(())
 }
 
-// Writes the numbers of a list but the first, which is their place, over the lent bytes, in the order of the file.
-pub(crate) fn put(
-    lines: &mut Lines,
-    room: &mut [u8],
-    lent: usize,
-    at: usize,
-    width: usize,
-    values: &[i64],
-)
-    requires { lent ≤ length room.old }
-{
-    if values.len() < 2 {
-        lines.wrong();
-    } else {
-        let order = order_of(room);
-        put_all(lines, order, &mut room[0..lent], at, width, &values[1..]);
+// Writes a file that was kept over the first bytes.
+fn overwrite(bytes: &mut [u8; WATCHED], file: [u8; SMALL]) {
+    bytes[..SMALL].copy_from_slice(&file);
+}
+
+impl Room {
+    // The room, all zeros, with nothing lent.
+    pub(crate) fn new() -> Room {
+        let bytes = [0; WATCHED];
+        let kept = [[0; SMALL]; 26];
+        Room {
+            bytes,
+            lent: Lent { count: 0 },
+            kept,
+        }
+    }
+
+    // The lent bytes.
+    pub(crate) fn file(&self) -> &[u8] {
+        &self.bytes[..self.lent.count]
+    }
+
+    // The lent bytes and those behind them that are looked at too.
+    fn watched(&self) -> &[u8] {
+        &self.bytes[..self.lent.count + BEHIND]
+    }
+
+    // A copy of the bytes before a call.
+    pub(crate) fn copy(&self, alloc: Global) -> Result<Vec<u8>, AllocError> {
+        self.watched().to_vec(alloc)
+    }
+
+    // Writes whether bytes changed since they were copied, from an offset on.
+    pub(crate) fn compare(&self, out: Stdout, before: &[u8], from: usize) -> io::Result<()> {
+        let from = from.min(BEHIND);
+        if self.watched().get(from..) == before.get(from..) {
+            print!(out; " unchanged")
+        } else {
+            print!(out; " changed")
+        }
+    }
+
+    // Lends the first bytes alone.
+    pub(crate) fn lend(&mut self, out: Stdout, count: i64) -> io::Result<()> {
+        let count = at_most(out, FILE, count)?;
+        self.lent = Lent { count };
+        Ok(())
+    }
+
+    // Fills the lent bytes with one.
+    pub(crate) fn fill(&mut self, byte: u8) {
+        let lent = self.lent.count;
+        self.bytes[..lent].fill(byte);
+    }
+
+    // Keeps the file of the first bytes under a letter.
+    pub(crate) fn keep(&mut self, out: Stdout, text: &[u8]) -> io::Result<()> {
+        let letter = letter(out, text)?;
+        let mut file = [0; SMALL];
+        file.copy_from_slice(&self.bytes[..SMALL]);
+        self.kept[letter] = file;
+        Ok(())
+    }
+
+    // Takes the file that is kept under a letter, and lends it.
+    pub(crate) fn take(&mut self, out: Stdout, text: &[u8]) -> io::Result<()> {
+        let letter = letter(out, text)?;
+        let file = self.kept[letter];
+        overwrite(&mut self.bytes, file);
+        self.lent = Lent { count: SMALL };
+        Ok(())
+    }
+
+    // Writes numbers over the lent bytes: in the big order where the second byte is that of a big file's code, also in a code
+    // that is neither.
+    pub(crate) fn put(
+        &mut self,
+        out: Stdout,
+        from: usize,
+        width: Width,
+        numbers: &[i64],
+    ) -> io::Result<()> {
+        let big = self.bytes[1] == b'B';
+        let lent = self.lent.count;
+        put_all(out, &mut self.bytes[..lent], from, width, big, numbers)
     }
 }

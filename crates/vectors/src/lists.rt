@@ -1,140 +1,84 @@
-// The lists behind the numbers of an append, a batch or an update, each behind its label, and the bytes that they say.
-ghost use Rattle.std.specs.Prelude.{◌≤◌, length};
+// The lists behind the numbers of an append, a batch or an update.
+ghost use Rattle.std.specs.Prelude.{◌≡◌, vec_len, IfOk};
 
-use super::files::put_all;
-use super::printing::Lines;
-use super::reading::{Read, bits_at, find, int4, list, position};
-use words::ByteOrder;
+use super::printing::wrong;
+use super::reading::{Label, Reader, at_most, int4, int4s};
+use std::alloc::Global;
+use std::io::{self, Stdout};
 
-// The labels, by their numbers.
-pub(crate) const VERSIONS: usize = 0;
+// The most numbers that a list of identifiers, lengths or versions has.
+pub(crate) const MOST: usize = 65;
 
-pub(crate) const COUNTS: usize = 1;
+// The most bytes of an index, of sections, of data or of a new content that are handed in.
+pub(crate) const PART: usize = 272;
 
-const IDS: usize = 2;
+// What a line lists for an append or a batch: identifiers, lengths, and the bytes of the index, the sections and the data one
+// after another, then zeros.
+#[derive(Drop)]
+pub(crate) struct Lists {
+    ids: Vec<i32>,
+    lengths: Vec<i64>,
+    bytes: Vec<u8>,
+    ghost three_parts: { vec_len bytes ≡ 816 },
+}
 
-const LENGTHS: usize = 3;
-
-const WORDS: usize = 4;
-
-// How many identifiers and lengths were listed.
+// What is handed to an append or a batch: identifiers, lengths, and the bytes of the index, the sections and the data.
 #[derive(Clone, Copy)]
-pub(crate) struct Listed {
-    pub(crate) ids: usize,
-    pub(crate) lengths: usize,
+pub(crate) struct Handed<'a> {
+    pub(crate) ids: &'a [i32],
+    pub(crate) lengths: &'a [i64],
+    pub(crate) index: &'a [u8],
+    pub(crate) sections: &'a [u8],
+    pub(crate) values: &'a [u8],
 }
 
-// Where the bytes of the index, of the sections and of the data end.
-#[derive(Clone, Copy)]
-pub(crate) struct PartEnds {
-    pub(crate) index: usize,
-    pub(crate) sections: usize,
-    pub(crate) values: usize,
-}
-
-// An Integer*4 of a list.
-pub(crate) fn int4_at(lines: &mut Lines, values: &[i64], i: usize) -> i32 {
-    int4(lines, bits_at(values, i))
-}
-
-// A number of the script, which is at most so large.
-pub(crate) fn at_most(lines: &mut Lines, most: usize, bits: u64) -> usize
-    ensures { result ≤ most }
+// Reads the words listed, with which a line ends, as bytes, the least significant first; zeros stand behind them.
+pub(crate) fn listed_bytes(
+    out: Stdout,
+    alloc: Global,
+    mut lists: Reader,
+    count: usize,
+) -> io::Result<Vec<u8>>
+    ensures { IfOk result (λ bytes. vec_len bytes ≡ count) }
 {
-    if bits <= most as u64 {
-        bits as usize
-    } else {
-        lines.wrong();
-        0
+    let mut bytes = Vec::new(alloc);
+    for word in lists.list(alloc, Label::Words, 66)?.iter() {
+        let word = int4(out, *word)?;
+        bytes.extend_from_slice(&word.to_le_bytes())?;
     }
+    if !lists.rest.is_empty() {
+        wrong(out)?;
+    }
+    bytes.resize(count, 0)?;
+    Ok(bytes)
 }
 
-// Reads the list behind a label; nothing if the label is another.
-pub(crate) fn labelled(bytes: &[u8], at: usize, label: usize, values: &mut [i64]) -> Read
-    ensures { result.count ≤ length values.old }
-{
-    if bytes.len() <= at {
-        return Read { count: 0, next: at };
+impl Lists {
+    // Reads identifiers, lengths and words, each behind its label.
+    pub(crate) fn read(out: Stdout, alloc: Global, mut lists: Reader) -> io::Result<Lists> {
+        let ids = lists.list(alloc, Label::Ids, MOST)?;
+        let ids = int4s(out, alloc, &ids)?;
+        let lengths = lists.list(alloc, Label::Lengths, MOST)?;
+        let bytes = listed_bytes(out, alloc, lists, 3 * PART)?;
+        Ok(Lists {
+            ids,
+            lengths,
+            bytes,
+        })
     }
-    let from = at + 1;
-    let end = find(bytes, from, b' ');
-    if position(b"versions counts ids lengths words", &bytes[from..end]) != label {
-        return Read { count: 0, next: at };
-    }
-    list(bytes, end, values)
-}
 
-// Takes the numbers of a list as Integer*4.
-fn integers(lines: &mut Lines, values: &[i64], numbers: &mut [i32])
-    requires { length values.now ≤ length numbers.old }
-{
-    for i in 0..values.len() {
-        let number = int4_at(lines, values, i);
-        numbers[i] = number;
-    }
-}
-
-// Reads the list of Integer*4 behind a label.
-pub(crate) fn labelled_integers(
-    lines: &mut Lines,
-    bytes: &[u8],
-    at: usize,
-    label: usize,
-    numbers: &mut [i32],
-) -> Read
-    requires { 65 ≤ length numbers.old }
-    ensures { result.count ≤ 65 }
-{
-    let mut values = [0i64; 65];
-    let read = labelled(bytes, at, label, &mut values);
-    let count = read.count;
-    integers(lines, &values[0..count], numbers);
-    read
-}
-
-// Reads the words listed, those of an append, a batch or new content, as bytes, the least significant first.
-pub(crate) fn listed_words(lines: &mut Lines, lists: &[u8], at: usize, bytes: &mut [u8]) {
-    let mut values = [0i64; 66];
-    let read = labelled(lists, at, WORDS, &mut values);
-    let count = read.count;
-    put_all(lines, ByteOrder(0), bytes, 0, 4, &values[0..count]);
-    if read.next != lists.len() {
-        lines.wrong();
-    }
-}
-
-// Reads identifiers, lengths and words.
-pub(crate) fn read_lists(
-    lines: &mut Lines,
-    lists: &[u8],
-    at: usize,
-    ids: &mut [i32],
-    lengths: &mut [i64],
-    bytes: &mut [u8],
-) -> Listed
-    requires { 65 ≤ length ids.old }
-    ensures { (result.ids ≤ 65) × (result.lengths ≤ length lengths.old) }
-{
-    let named = labelled_integers(lines, lists, at, IDS, ids);
-    let measured = labelled(lists, named.next, LENGTHS, lengths);
-    listed_words(lines, lists, measured.next, bytes);
-    Listed {
-        ids: named.count,
-        lengths: measured.count,
-    }
-}
-
-// Where the bytes of the index, the sections and the data end, whose counts a list has from a place on.
-pub(crate) fn ends(lines: &mut Lines, numbers: &[i64], from: usize) -> PartEnds
-    requires { from ≤ 2 }
-    ensures { (result.index ≤ result.sections) × (result.sections ≤ result.values) × (result.values ≤ 816) }
-{
-    let index = at_most(lines, 272, bits_at(numbers, from));
-    let sections = index + at_most(lines, 272, bits_at(numbers, from + 1));
-    let values = sections + at_most(lines, 272, bits_at(numbers, from + 2));
-    PartEnds {
-        index,
-        sections,
-        values,
+    // What is handed in, with so many bytes of index, of sections and of data.
+    pub(crate) fn handed(&self, out: Stdout, counts: [i64; 3]) -> io::Result<Handed<'_>> {
+        let [index, sections, values] = counts;
+        let (index, rest) = self.bytes.split_at(at_most(out, PART, index)?);
+        let (sections, rest) = rest.split_at(at_most(out, PART, sections)?);
+        let (values, _) = rest.split_at(at_most(out, PART, values)?);
+        Ok(Handed {
+            ids: self.ids.as_slice(),
+            lengths: self.lengths.as_slice(),
+            index,
+            sections,
+            values,
+        })
     }
 }

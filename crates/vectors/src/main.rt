@@ -4,6 +4,7 @@
 
 mod answers;
 mod batching;
+mod command;
 mod every;
 mod files;
 mod first_record;
@@ -13,215 +14,173 @@ mod printing;
 mod reading;
 mod writing;
 
-ghost use Rattle.std.specs.Prelude.{◌≡◌, ◌≤◌, length};
-ghost use Rattle.std.specs.Io.{ReadsAtMost};
-
 use answers::{checked, handed_data, indexed, opened, sectioned, shown, tabled};
-use batching::batch_in;
-use every::every_in;
-use files::{ROOM, fill, keep, put, take};
+use classic::Settings;
+use command::{Command, Question, Width};
+use files::Room;
 use first_record::{described, extended, validated};
-use holding::{HELD, alter_in, open_in};
-use printing::Lines;
-use reading::{bits_at, byte_at, bytes_before, bytes_of, find, int4, list, position};
-use std::io::{self, Read, Stdin};
-use writing::{append_in, create_in, update_in};
+use holding::{Held, hold};
+use printing::{Case, wrong};
+use reading::{Reader, at_most, bytes_before, cut, int4};
+use std::alloc::Global;
+use std::io::{self, Read, Stdout};
 
 // A script has fewer bytes than this.
-const SCRIPT: usize = 131072;
+const SCRIPT: u64 = 131072;
+
+// A run of a script: where its lines go, the allocator, the file that the calls are made on, and the record that is held.
+#[derive(Drop)]
+struct Run {
+    out: Stdout,
+    alloc: Global,
+    room: Room,
+    held: Held,
+}
 
 // Runs a command that reads the lent bytes.
-fn ask(lines: &mut Lines, command: usize, a: u64, b: u64, name: &[u8], file: &[u8]) {
-    match command {
-        10 => validated(lines, name, file),
-        11 => described(lines, name, file),
-        12 => extended(lines, name, file, a),
-        13 => opened(lines, name, file, a),
-        14 => tabled(lines, name, file, a),
-        15 => indexed(lines, name, file, a),
-        16 => {
-            let identifier = int4(lines, b);
-            sectioned(lines, name, file, a, identifier);
+fn ask(case: Case, question: Question, numbers: &[i64], file: &[u8]) -> io::Result<()> {
+    match (question, numbers) {
+        (Question::Validate, []) => validated(case, file),
+        (Question::Describe, []) => described(case, file),
+        (Question::Extension, [asked]) => extended(case, file, asked.cast_unsigned()),
+        (Question::Open, [asked]) => opened(case, file, asked.cast_unsigned()),
+        (Question::Tables, [asked]) => tabled(case, file, asked.cast_unsigned()),
+        (Question::Index, [asked]) => indexed(case, file, asked.cast_unsigned()),
+        (Question::Section, [asked, identifier]) => {
+            let identifier = int4(case.out, *identifier)?;
+            sectioned(case, file, asked.cast_unsigned(), identifier)
         }
-        17 => handed_data(lines, name, file, a),
-        18 => checked(lines, name, file),
-        _ => shown(lines, name, file, a, b),
+        (Question::Data, [asked]) => handed_data(case, file, asked.cast_unsigned()),
+        (Question::Check, []) => checked(case, file),
+        (Question::Words, [first, last]) => shown(case, file, *first, *last),
+        _ => wrong(case.out),
     }
 }
 
-// Runs a command on the lent bytes.
-fn run(
-    lines: &mut Lines,
-    command: usize,
-    values: &[i64],
-    rest: &[u8],
-    name: &[u8],
-    record: &mut [u8],
-    room: &mut [u8],
-    lent: usize,
-)
-    requires { (length room.old ≡ 1623632) × (lent ≤ 789176) }
-{
-    let a = bits_at(values, 0);
-    let b = bits_at(values, 1);
-    match command {
-        0 => fill(room, lent, b),
-        1 => {}
-        2 => keep(lines, room, rest),
-        3 => take(lines, room, rest),
-        4 => put(lines, room, lent, a as usize, 1, values),
-        5 | 6 => {
-            let at = bytes_before(lines, a);
-            let width = if command == 5 { 4 } else { 8 };
-            put(lines, room, lent, at, width, values);
+// The settings as the first record has them, from its code on.
+fn settings(out: Stdout, numbers: [i64; 8]) -> io::Result<Settings> {
+    let [order, reclen, kind, vind, lind, flags, lex1, gex] = numbers;
+    Ok(Settings {
+        order: int4(out, order)?,
+        reclen: int4(out, reclen)?,
+        kind: int4(out, kind)?,
+        vind: int4(out, vind)?,
+        lind: int4(out, lind)?,
+        flags: int4(out, flags)?,
+        lex1: int4(out, lex1)?,
+        gex: int4(out, gex)?,
+    })
+}
+
+impl Run {
+    // A run with nothing lent, kept or held.
+    fn new(rt: HostRuntime) -> Run {
+        Run {
+            out: rt.stdout(),
+            alloc: rt.alloc(),
+            room: Room::new(),
+            held: Held::new(),
         }
-        7 => create_in(lines, values, name, room, lent),
-        8 => append_in(lines, &mut [], values, rest, name, room, lent),
-        9 => every_in(lines, a, name, room, lent),
-        20 => batch_in(lines, &mut [], values, rest, name, room, lent),
-        21 => update_in(lines, &mut [], values, rest, name, room, lent),
-        22 => append_in(lines, record, values, rest, name, room, lent),
-        23 => batch_in(lines, record, values, rest, name, room, lent),
-        24 => update_in(lines, record, values, rest, name, room, lent),
-        25 => {
-            open_in(lines, name, record, &room[0..lent]);
+    }
+
+    // Writes the numbers of a list but the first, which is their place, over the lent bytes.
+    fn put(&mut self, width: Width, numbers: &[i64]) -> io::Result<()> {
+        let place = numbers.first().copied().unwrap_or(0);
+        let at = match width {
+            Width::One => place.cast_unsigned() as usize,
+            Width::Four | Width::Eight => bytes_before(self.out, place)?,
+        };
+        match numbers {
+            [_, values @ ..] if !values.is_empty() => self.room.put(self.out, at, width, values),
+            _ => wrong(self.out),
         }
-        26 => alter_in(lines, values, record, &room[0..lent]),
-        _ => ask(lines, command, a, b, name, &room[0..lent]),
     }
-}
 
-// Whether a command takes so many numbers, 20 for any count, and whether more stands behind them.
-fn takes(command: usize, count: usize, more: bool) -> bool {
-    match command {
-        2 | 3 => more && count == 0,
-        8 | 22 => count == 4,
-        20 | 23 => count == 5,
-        21 | 24 => count == 3,
-        4 | 5 | 6 => !more,
-        7 => !more && count == 8,
-        0 | 16 | 19 | 26 => !more && count == 2,
-        10 | 11 | 18 | 25 => !more && count == 0,
-        1 | 9 | 12 | 13 | 14 | 15 | 17 => !more && count == 1,
-        _ => false,
+    // Holds the record of a file with another number in one of the fields, which are counted from 1.
+    fn alter(&mut self, field: i64, number: i64) -> io::Result<()> {
+        self.held = Held::of(self.room.file());
+        let field = at_most(self.out, 43, field.wrapping_sub(1))?;
+        self.held.set(field, number.cast_unsigned());
+        Ok(())
     }
-}
 
-// How many bytes are lent after a command.
-fn lent_after(lines: &mut Lines, command: usize, a: u64, lent: usize) -> usize
-    requires { lent ≤ 789176 }
-    ensures { result ≤ 789176 }
-{
-    if command == 3 {
-        480
-    } else if 1 < command {
-        lent
-    } else if a <= 789176 {
-        a as usize
-    } else {
-        lines.wrong();
-        0
-    }
-}
-
-// Reads the numbers of a command and runs it; answers how many bytes are lent then.
-fn run_command(
-    lines: &mut Lines,
-    command: usize,
-    args: &[u8],
-    name: &[u8],
-    record: &mut [u8],
-    room: &mut [u8],
-    lent: usize,
-) -> usize
-    requires { (length room.old ≡ 1623632) × (lent ≤ 789176) }
-    ensures { result ≤ 789176 }
-{
-    let mut numbers = [0i64; 20];
-    let read = list(args, 0, &mut numbers);
-    let count = read.count;
-    let rest = bytes_of(args, read.next, args.len());
-    if !takes(command, count, rest.len() != 0) {
-        lines.wrong();
-        return lent;
-    }
-    let values = &numbers[0..count];
-    let after = lent_after(lines, command, bits_at(values, 0), lent);
-    run(lines, command, values, rest, name, record, room, after);
-    after
-}
-
-// Runs a line of the script: a command, its numbers, and behind a colon and a space the name of a case.
-fn run_line(
-    lines: &mut Lines,
-    line: &[u8],
-    record: &mut [u8],
-    room: &mut [u8],
-    lent: usize,
-) -> usize
-    requires { (length room.old ≡ 1623632) × (lent ≤ 789176) }
-    ensures { result ≤ 789176 }
-{
-    let first = byte_at(line, 0);
-    if first == 0 || first == b'#' {
-        return lent;
-    }
-    let colon = find(line, 0, b':');
-    let head = &line[0..colon];
-    let end = find(head, 0, b' ');
-    let command = position(
-        b"file lend keep take put1 put4 put8 create append every validate describe extension open tables index section data check words batch update append_through batch_through update_through hold alter",
-        &head[0..end],
-    );
-    let name = bytes_of(line, colon + 2, line.len());
-    run_command(lines, command, &head[end..], name, record, room, lent)
-}
-
-// Runs the lines of a script.
-fn run_lines(lines: &mut Lines, script: &[u8], record: &mut [u8], room: &mut [u8])
-    requires { length room.old ≡ 1623632 }
-{
-    let mut lent = 0;
-    for line in script.split(|byte| *byte == b'\n') {
-        lent = run_line(lines, line, record, room, lent);
-    }
-}
-
-// The bytes that the script is read into, empty.
-fn unread() -> [u8; SCRIPT] {
-    [0; SCRIPT]
-}
-
-// The room, empty.
-fn space() -> [u8; ROOM] {
-    [0; ROOM]
-}
-
-// Reads until the bytes are full or the input ends, and answers how many were read.
-fn read_full(input: &mut Stdin, bytes: &mut [u8]) -> io::Result<usize>
-    ensures { ReadsAtMost result bytes.new }
-{
-    let mut done = 0;
-    while done < bytes.len() {
-        let count = input.read(&mut bytes[done..])?;
-        if count == 0 {
-            break;
+    // Runs a command with its numbers and what stands behind them.
+    fn run(
+        &mut self,
+        case: Case,
+        command: Command,
+        numbers: &[i64],
+        lists: Reader,
+    ) -> io::Result<()> {
+        match (command, numbers, lists.rest) {
+            (Command::File, [count, byte], []) => {
+                self.room.lend(self.out, *count)?;
+                self.room.fill(byte.to_le_bytes()[0]);
+                Ok(())
+            }
+            (Command::Lend, [count], []) => self.room.lend(self.out, *count),
+            (Command::Keep, [], letter @ [_, ..]) => self.room.keep(self.out, letter),
+            (Command::Take, [], letter @ [_, ..]) => self.room.take(self.out, letter),
+            (Command::Put(width), numbers, []) => self.put(width, numbers),
+            (Command::Create, [order, reclen, kind, vind, lind, flags, lex1, gex], []) => {
+                let numbers = [*order, *reclen, *kind, *vind, *lind, *flags, *lex1, *gex];
+                self.create(case, settings(self.out, numbers)?)
+            }
+            (Command::Append(way), [version, index, sections, values], _) => {
+                self.append(case, way, *version, [*index, *sections, *values], lists)
+            }
+            (Command::Batch(way), [versions, rows, index, sections, values], _) => {
+                self.batch(
+                    case,
+                    way,
+                    *versions,
+                    *rows,
+                    [*index, *sections, *values],
+                    lists,
+                )
+            }
+            (Command::Update(way), [asked, identifier, count], _) => {
+                self.update(case, way, *asked, *identifier, *count, lists)
+            }
+            (Command::Every, [asked], []) => self.every(case, asked.cast_unsigned()),
+            (Command::Hold, [], []) => hold(case, &mut self.held, self.room.file()),
+            (Command::Alter, [field, number], []) => self.alter(*field, *number),
+            (Command::Ask(question), numbers, []) => ask(case, question, numbers, self.room.file()),
+            _ => wrong(self.out),
         }
-        done += count;
     }
-    Ok(done)
+
+    // Runs a line of the script: a command, its numbers, and behind a colon and a space the name of a case.
+    fn line(&mut self, line: &[u8]) -> io::Result<()> {
+        if matches!(line.first(), None | Some(0 | b'#')) {
+            return Ok(());
+        }
+        let (head, tail) = cut(line, b':');
+        let name = tail.get(2..).unwrap_or(&[]);
+        let (word, rest) = cut(head, b' ');
+        let mut lists = Reader { rest };
+        let numbers = lists.numbers(self.alloc, 20)?;
+        let case = Case {
+            out: self.out,
+            name,
+        };
+        match Command::parse(word) {
+            Some(command) => self.run(case, command, &numbers, lists),
+            None => wrong(self.out),
+        }
+    }
 }
 
-// Reads the script and runs it. A read or a write that fails ends the run, and is its error.
+// Reads the script and runs its lines. A read or a write that fails ends the run, and is its error.
 fn main(rt: HostRuntime) -> io::Result<()> {
-    let mut lines = Lines::new(rt.stdout());
-    let mut script = unread();
-    let mut record = [0u8; HELD];
-    let mut room = space();
-    let count = read_full(&mut rt.stdin(), &mut script)?;
-    if count == script.len() {
-        lines.wrong();
+    let mut script = Vec::new(rt.alloc());
+    rt.stdin().take(SCRIPT).read_to_end(&mut script)?;
+    if script.len() as u64 == SCRIPT {
+        wrong(rt.stdout())?;
     }
-    run_lines(&mut lines, &script[..count], &mut record, &mut room);
-    lines.into_outcome()
+    let mut run = Run::new(rt);
+    for line in script.split(|byte| *byte == b'\n') {
+        run.line(line)?;
+    }
+    Ok(())
 }

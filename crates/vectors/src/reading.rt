@@ -1,178 +1,153 @@
-// Reading a line of the script: its words and its numbers.
-ghost use Rattle.std.specs.Prelude.{◌+◌, ◌≤◌, length};
+// Reading a line of the script: its numbers, and the lists behind their labels.
+ghost use Rattle.std.specs.Prelude.{◌≤◌, IfOk};
 
-use super::printing::Lines;
+use super::printing::wrong;
+use std::alloc::{AllocError, Global};
+use std::io::{self, Stdout};
 
-// What was read: how many numbers, and where the reading stopped.
+// A list's label.
 #[derive(Clone, Copy)]
-pub(crate) struct Read {
-    pub(crate) count: usize,
-    pub(crate) next: usize,
+pub(crate) enum Label {
+    Versions,
+    Counts,
+    Ids,
+    Lengths,
+    Words,
 }
 
-// No digit more.
-const NONE: u64 = 0xffff_ffff_ffff_ffff;
-
-// A number, and where it ends; where it was looked for if there is none.
-#[derive(Clone, Copy)]
-struct Value {
-    value: i64,
-    next: usize,
-}
-
-// The number of digits, and where they end.
-#[derive(Clone, Copy)]
-struct Magnitude {
-    value: u64,
-    next: usize,
-}
-
-// The smaller of two.
-pub(crate) fn least(a: usize, b: usize) -> usize
-    ensures { (result ≤ a) × (result ≤ b) }
-{
-    if a < b { a } else { b }
-}
-
-// The bytes from an offset to another, as far as there are.
-pub(crate) fn bytes_of(bytes: &[u8], from: usize, to: usize) -> &[u8] {
-    let end = least(to, bytes.len());
-    let start = least(from, end);
-    &bytes[start..end]
-}
-
-// How many bytes stand before a word, which is counted from 1.
-pub(crate) fn bytes_before(lines: &mut Lines, word: u64) -> usize
-    ensures { result ≤ 0x4000_0000 }
-{
-    if word < 1 {
-        lines.wrong();
-        0
-    } else if 0x1000_0000 < word {
-        lines.wrong();
-        0
-    } else {
-        4 * (word - 1) as usize
-    }
-}
-
-// The byte at an offset, 0 past the end.
-pub(crate) fn byte_at(bytes: &[u8], at: usize) -> u8 {
-    if at < bytes.len() { bytes[at] } else { 0 }
-}
-
-// Where a byte stands first from an offset on, or the end of the bytes.
-pub(crate) fn find(bytes: &[u8], from: usize, byte: u8) -> usize
-    requires { from ≤ length bytes.now }
-    ensures { (from ≤ result) × (result ≤ length bytes.now) }
-{
-    for at in from..bytes.len() {
-        if bytes[at] == byte {
-            return at;
+impl Label {
+    // The word that a label is written as.
+    fn word(self) -> &'static [u8] {
+        match self {
+            Label::Versions => b"versions",
+            Label::Counts => b"counts",
+            Label::Ids => b"ids",
+            Label::Lengths => b"lengths",
+            Label::Words => b"words",
         }
     }
-    bytes.len()
 }
 
-// Which of the words of a table this is, counted from 0; past the last if it is none.
-pub(crate) fn position(table: &[u8], word: &[u8]) -> usize {
-    let mut before = 0;
-    let mut at = 0;
-    while at < table.len() {
-        let end = find(table, at, b' ');
-        if &table[at..end] == word {
-            return before;
-        }
-        before += 1;
-        at = end + 1;
-    }
-    before
+// What is left to read of a line. It is read from the front and not split at spaces, since what follows a number may touch it.
+#[derive(Clone, Copy)]
+pub(crate) struct Reader<'a> {
+    pub(crate) rest: &'a [u8],
+}
+
+// The bytes before the first that is this one, and the bytes from it on.
+pub(crate) fn cut(text: &[u8], byte: u8) -> (&[u8], &[u8]) {
+    let end = text.iter().position(|other| *other == byte);
+    text.split_at(end.unwrap_or(text.len()))
 }
 
 // A number with one digit more; none if the byte is no digit, or the number too large.
-fn with_digit(value: u64, byte: u8) -> u64 {
-    if byte < b'0' {
-        NONE
-    } else if b'9' < byte {
-        NONE
-    } else if 922337203685477580 < value {
-        NONE
+fn with_digit(number: u64, byte: u8) -> Option<u64> {
+    if byte.is_ascii_digit() && number <= 922337203685477580 {
+        Some(10 * number + u64::from(byte - b'0'))
     } else {
-        10 * value + (byte - b'0') as u64
+        None
     }
 }
 
-// Reads digits from an offset on.
-fn digits(bytes: &[u8], from: usize) -> Magnitude {
-    let mut value = 0;
-    let mut at = from;
-    while at < bytes.len() {
-        let more = with_digit(value, bytes[at]);
-        if more == NONE {
-            return Magnitude { value, next: at };
+// The number of the digits at the front, and what stands behind them. A number that grows too large ends before its next digit,
+// where std's parse would refuse all of its digits.
+fn leading_digits(text: &[u8]) -> (u64, &[u8]) {
+    let mut number = 0;
+    for (i, byte) in text.iter().enumerate() {
+        let Some(more) = with_digit(number, *byte) else {
+            return (number, &text[i..]);
+        };
+        number = more;
+    }
+    (number, &[])
+}
+
+impl Reader<'_> {
+    // Reads a space and a number, which may be negative; its digits stand for at most 2^63.
+    fn number(&mut self) -> Option<i64> {
+        let text = self.rest.strip_prefix(b" ")?;
+        let negated = text.strip_prefix(b"-");
+        let digits = negated.unwrap_or(text);
+        let (magnitude, after) = leading_digits(digits);
+        if after.len() == digits.len() || magnitude > 1 << 63 {
+            return None;
         }
-        value = more;
-        at += 1;
+        self.rest = after;
+        let bits = if negated.is_some() {
+            magnitude.wrapping_neg()
+        } else {
+            magnitude
+        };
+        Some(bits.cast_signed())
     }
-    Magnitude { value, next: at }
-}
 
-// The bits of a number with a sign.
-fn bits_of(magnitude: u64, negative: bool) -> u64 {
-    if negative {
-        magnitude.wrapping_neg()
-    } else {
-        magnitude
-    }
-}
-
-// Reads a space and a number, which may be negative; its digits stand for at most 2^63.
-fn read_number(bytes: &[u8], at: usize) -> Value {
-    let negative = byte_at(bytes, at.wrapping_add(1)) == b'-';
-    let from = std::num::wrapping_add_usize(at, if negative { 2 } else { 1 });
-    let read = digits(bytes, from);
-    if byte_at(bytes, at) != b' ' || read.next == from || 0x8000_0000_0000_0000 < read.value {
-        Value { value: 0, next: at }
-    } else {
-        Value {
-            value: words::signed64(bits_of(read.value, negative)),
-            next: read.next,
+    // Reads numbers, as many as there are and so many at most.
+    pub(crate) fn numbers(&mut self, alloc: Global, most: usize) -> Result<Vec<i64>, AllocError> {
+        let mut numbers = Vec::new(alloc);
+        for _ in 0..most {
+            let Some(number) = self.number() else {
+                break;
+            };
+            numbers.push(number)?;
         }
+        Ok(numbers)
+    }
+
+    // Reads the list behind a label, so many numbers at most; none if the label is another.
+    pub(crate) fn list(
+        &mut self,
+        alloc: Global,
+        label: Label,
+        most: usize,
+    ) -> Result<Vec<i64>, AllocError> {
+        let Some((_, labelled)) = self.rest.split_first() else {
+            return Ok(Vec::new(alloc));
+        };
+        let (word, after) = cut(labelled, b' ');
+        if word != label.word() {
+            return Ok(Vec::new(alloc));
+        }
+        self.rest = after;
+        self.numbers(alloc, most)
     }
 }
 
-// Reads numbers from an offset on, as many as there are and the list holds.
-pub(crate) fn list(bytes: &[u8], from: usize, values: &mut [i64]) -> Read
-    ensures { result.count ≤ length values.old }
+// The Integer*4 with the last 32 bits of a number. A number that is no Integer*4 makes the line wrong.
+pub(crate) fn int4(out: Stdout, number: i64) -> io::Result<i32> {
+    if i32::try_from(number).is_err() {
+        wrong(out)?;
+    }
+    let bits = (number.cast_unsigned() % (1 << 32)) as u32;
+    Ok(bits.cast_signed())
+}
+
+// Each number of a list as an Integer*4.
+pub(crate) fn int4s(out: Stdout, alloc: Global, numbers: &[i64]) -> io::Result<Vec<i32>> {
+    let mut int4s = Vec::new(alloc);
+    for number in numbers {
+        int4s.push(int4(out, *number)?)?;
+    }
+    Ok(int4s)
+}
+
+// A number of the script, which is 0 to `most`. Any other makes the line wrong, and 0 stands in its place.
+pub(crate) fn at_most(out: Stdout, most: usize, number: i64) -> io::Result<usize>
+    ensures { IfOk result (λ n. n ≤ most) }
 {
-    let mut next = from;
-    for count in 0..values.len() {
-        let read = read_number(bytes, next);
-        if read.next == next {
-            return Read { count, next };
+    match usize::try_from(number) {
+        Ok(number) if number <= most => Ok(number),
+        _ => {
+            wrong(out)?;
+            Ok(0)
         }
-        values[count] = read.value;
-        next = read.next;
-    }
-    Read {
-        count: values.len(),
-        next,
     }
 }
 
-// The bits of a number of a list, 0 past its end.
-pub(crate) fn bits_at(values: &[i64], i: usize) -> u64 {
-    if i < values.len() {
-        words::bits64(values[i])
-    } else {
-        0
-    }
-}
-
-// The Integer*4 with these bits.
-pub(crate) fn int4(lines: &mut Lines, bits: u64) -> i32 {
-    if 0x7fff_ffff < bits && bits < 0xffff_ffff_8000_0000 {
-        lines.wrong();
-    }
-    words::signed32((bits % 0x1_0000_0000) as u32)
+// How many bytes stand before a word, which is counted from 1. A word that is none makes the line wrong, and the first stands in
+// its place.
+pub(crate) fn bytes_before(out: Stdout, word: i64) -> io::Result<usize>
+    ensures { IfOk result (λ n. n ≤ 0x4000_0000) }
+{
+    let before = at_most(out, 0x0fff_ffff, word.wrapping_sub(1))?;
+    Ok(4 * before)
 }

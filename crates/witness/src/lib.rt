@@ -43,10 +43,8 @@ pub struct Begun {
 fn read_identifiers(ids: &[i32])
     ensures { AllIntegers ids.now }
 {
-    let mut done = 0;
-    while done < ids.len() {
-        let _identifier = ids[done];
-        done += 1;
+    for identifier in ids {
+        let _identifier = *identifier;
     }
 }
 

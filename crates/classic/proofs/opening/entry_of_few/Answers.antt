@@ -1,9 +1,10 @@
 -- A turn puts what its section has, or passes a place without one; behind the last turn the tables are full.
-use Rattle.std.proofs.Common.{◌≤◌, min, ◌∙◌, arith}
+use Rattle.std.proofs.Common.{◌≤◌, refl, min, ◌∙◌, arith}
 use borrow.Author.Rules.{sfits_of}
 use mir.Facts.{to_z-of_z}
 use Rattle.words.proofs.Table.{filling-all}
 use Rattle.pieces.specs.Tables.{section_identifiers, section_lengths}
+use Rattle.entry.specs.Entered.{given}
 use Rattle.classic.specs.Answers.{entry_having}
 use Rattle.classic.proofs.Filled.{passing-next, passing-past}
 use Rattle.classic.proofs.Entries.{addresses-numbers, having-tables}
@@ -18,9 +19,9 @@ loop-passed-preserved c =
       | then-passed-nsec w ↦
           let some = w.if-passed-nsec.true in
           record {
-            ids = rw w.ids-is (passing-next kept.ids some few (rw (to_z-of_z (sfits_of w.identifier_at.type_inv)) w.identifier_at.ensures));
-            lengths = rw w.lengths-is (passing-next kept.lengths some few (rw w.section_at-section.ensures));
-            addresses = rw w.addresses-is (passing-next kept.addresses some few (rw w.section_at-section.ensures));
+            ids = rw w.ids-is (passing-next kept.ids some few (rw (to_z-of_z (sfits_of w.identifier.type_inv)) w.identifier.ensures));
+            lengths = rw w.lengths-is (passing-next kept.lengths some few (rw w.section-section.ensures));
+            addresses = rw w.addresses-is (passing-next kept.addresses some few (rw w.section-section.ensures));
           }
       | else-passed-nsec w ↦
           let past = w.if-passed-nsec.false in
@@ -37,8 +38,8 @@ returns c =
     let x = c.args.entered in
     let file = c.args.file.now in
     let kept = c.loop-passed.invariant in
-    let all : x.nsec ≤ min c.loop-passed.passed x.nsec = omega (arith, c.requires.3, c.loop-passed-test.false) in
+    let all : x.nsec ≤ min c.loop-passed.passed x.nsec = omega (arith, c.requires.2, c.loop-passed-test.false) in
     let ids = filling-all kept.ids all in
     let lengths = filling-all kept.lengths all in
     let addresses = filling-all kept.addresses all ∙ addresses-numbers file x.start x.nsec in
-    c.entry_having.ensures ∙ (λ i. entry_having x (ids i) (lengths i) (addresses i)) ∙ having-tables file x c.requires.2
+    c.entry_having.ensures ∙ (λ i. entry_having (given x) (ids i) (lengths i) (addresses i)) ∙ having-tables file (given x) refl
