@@ -113,7 +113,7 @@ def tokens(text, at=0):
             clause = None
         elif piece[0] in ("'", '"'):
             raise Unreadable("a literal that never ends", start)
-        elif clause and piece["sign"] and piece[0] != ":":
+        elif clause and piece["sign"] and piece[0] not in (":", "="):
             raise Unreadable("a clause with no text in braces", start)
         elif not clause and (piece["word"] or piece["sign"]):
             yield Token(piece[0], start)

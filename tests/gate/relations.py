@@ -23,6 +23,8 @@ RELATIONS = {
     "Answers": Relation("outcome", "Outcome", "value answer"),
     "Leaves": Relation("outcome", "Outcome", "value exit"),
     "AnswersAndLeaves": Relation("outcome", "Outcome", "value value answer exit"),
+    "Refuses": Relation("outcome", "Refusal", "value answer"),
+    "Gives": Relation("outcome", "Refusal", "value value answer"),
     "IsPart": Relation("handing", "Parts", "value value answer"),
     "Creates": Relation("writer", "Creation", "value value answer exit"),
     "Appends": Relation("writer", "Answers", "value value answer exit"),
