@@ -3,6 +3,8 @@ use Rattle.std.specs.Prelude.{ℕ, ◌+◌, ◌<◌, List, [], ◌∷◌, ℤ, p
 use Rattle.std.proofs.Common.{SFits}
 use Rattle.words.specs.Word.{integer4}
 use Rattle.storing.specs.Handed.{Handed, handed_in, Slice}
+use Rattle.batch.specs.declared.new_entries.Columns.{Columns}
+use Rattle.batch.specs.declared.new_entries.NewEntries.{NewEntries}
 
 -- index words, identifiers, lengths, section bytes and data: of several entries, each kind laid end to end
 pub record Laid : Type 0 where
@@ -103,3 +105,11 @@ laid index ids lengths sections values = laid_in index.entry.now ids.entry.now l
 -- and all of them
 abbrev pub batch : Slice ℤ → Slice (List ℕ) → Laid → Batch
 batch versions counts x = batch_in versions.entry.now counts.entry.now x
+
+-- what is laid, as slices that a function is lent
+abbrev pub laid_of : Columns → Laid
+laid_of c = laid_in c.index.now c.ids.now c.lengths.now c.sections.now c.values.now
+
+-- and a batch
+abbrev pub batch_handed : NewEntries → Batch
+batch_handed e = batch_in e.versions.now e.counts.now (laid_of e.columns)

@@ -9,17 +9,7 @@ use Rattle.storing.specs.Handed.{Handed, handed_in}
 use Rattle.writer.specs.Rules.{append_refusal}
 use Rattle.writer.specs.Answers.{file_from}
 use Rattle.batch.specs.declared.counts.Counts.{Counts}
-use Rattle.batch.specs.declared.new_entries.Columns.{Columns}
-use Rattle.batch.specs.declared.new_entries.NewEntries.{NewEntries}
-use Rattle.batch.specs.Batch.{Laid, Batch, count_in, index_bytes, id_count, length_count, section_bytes, data_bytes, together, laid_in, batch_in}
-
--- what is laid, as slices that a function is lent
-abbrev pub laid_of : Columns → Laid
-laid_of c = laid_in c.index.now c.ids.now c.lengths.now c.sections.now c.values.now
-
--- and a batch
-abbrev pub batch_handed : NewEntries → Batch
-batch_handed e = batch_in e.versions.now e.counts.now (laid_of e.columns)
+use Rattle.batch.specs.Batch.{Laid, count_in, index_bytes, id_count, length_count, section_bytes, data_bytes, together, laid_in}
 
 -- how much an entry takes, by its row
 abbrev pub counts_of : List ℕ → Counts

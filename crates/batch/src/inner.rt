@@ -4,9 +4,9 @@ ghost use Rattle.descriptor.specs.FirstRecord.{numbers_of, addresses_of};
 ghost use Rattle.descriptor.specs.Rules.{file_refusal};
 ghost use Rattle.descriptor.specs.Bounds.{AdmittedIn};
 ghost use Rattle.storing.specs.Handed.{handed_of};
-ghost use Rattle.batch.specs.Batch.{entries_in};
+ghost use Rattle.batch.specs.Batch.{entries_in, batch_handed};
 ghost use Rattle.batch.specs.Rules.{batch_refusal};
-ghost use Rattle.batch.specs.Taking.{batch_handed, AppendsNext};
+ghost use Rattle.batch.specs.Taking.{AppendsNext};
 ghost use Rattle.batch.specs.Answers.{AppendsInTurn};
 
 use super::answers::Batched;

@@ -2,7 +2,8 @@
 ghost use Rattle.std.specs.Prelude.{◌≡◌};
 ghost use Rattle.outcome.specs.Outcome.{Answers};
 ghost use Rattle.storing.specs.Handed.{handed_of};
-ghost use Rattle.batch.specs.Taking.{laid_of, counts_laid, Within, entry_taken, left_behind};
+ghost use Rattle.batch.specs.Batch.{laid_of};
+ghost use Rattle.batch.specs.Taking.{counts_laid, Within, entry_taken, left_behind};
 
 use super::counts::Counts;
 use storing::NewEntry;

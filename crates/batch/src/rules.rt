@@ -2,7 +2,8 @@
 ghost use Rattle.outcome.specs.Outcome.{Answers};
 ghost use Rattle.outcome.specs.Refusal.{Refuses};
 ghost use Rattle.batch.specs.Rules.{batch_refusal};
-ghost use Rattle.batch.specs.Taking.{laid_of, batch_handed, used_up};
+ghost use Rattle.batch.specs.Batch.{laid_of, batch_handed};
+ghost use Rattle.batch.specs.Taking.{used_up};
 
 use super::counts::Counts;
 use super::new_entries::{Columns, NewEntries};

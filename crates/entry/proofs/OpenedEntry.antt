@@ -2,8 +2,10 @@
 use borrow.Author.Rules.{rules}
 use borrow.Author.Tests.{ne_eqb}
 use Prim.Native.Nat.{ℕ, ◌+◌, ◌*◌, ◌^◌, ◌≤◌, ◌<◌}
-use mathlib.Core.Path.{◌≡◌, sym, ap, ◌∙◌}
+use mathlib.Core.Path.{◌≡◌, refl, sym, ap, ◌∙◌}
 use mathlib.Core.Bool.{true}
+use mathlib.Core.Logic.{◌⊎◌, inl, inr}
+use native.Mathlib.Decide.{ℕ_discrete}
 use mathlib.Core.List.{List}
 use lib.ListN.{length}
 use Rattle.geometry.specs.declared.units.RecordNumber.{RecordNumber}
@@ -12,7 +14,9 @@ use Rattle.geometry.specs.Units.{entries_before}
 use Rattle.descriptor.specs.declared.numbers.DescriptorNumbers.{DescriptorNumbers}
 use Rattle.descriptor.specs.declared.validating.Validated.TheVariants.{Numbers}
 use Rattle.descriptor.specs.Bounds.{Admitted}
-use Rattle.descriptor.specs.Answers.{validation_of, no_validation}
+use Rattle.descriptor.specs.FirstRecord.{addresses_of}
+use Rattle.descriptor.specs.Answers.{validation_of, no_validation, case_of}
+use Rattle.descriptor.proofs.Answered.{case-told}
 use Rattle.layout.specs.FileCode.{byte_order_of}
 use Rattle.pieces.specs.Contents.{data_within, sections_within}
 use Rattle.pieces.specs.Bounds.{Described}
@@ -52,3 +56,14 @@ module _ (file : List ℕ) (e : EntryNumber) where
       → open_of file e ≡ opened_as file (entered_of file d addresses e)
   unfolding open_of entered_in
   open-numbers q = rw q
+
+-- so where the case is of numbers, an entry was entered with no refusal, or is not opened
+pub entered_or_refused : (file : List ℕ) (e : EntryNumber) (d : DescriptorNumbers) → case_of file ≡ Numbers d
+    → (entered_of file d (addresses_of file d.nex) e).refusal ≡ 0 ⊎ open_of file e ≡ not_opened (entered_of file d (addresses_of file d.nex) e).refusal
+unfolding opened_as
+entered_or_refused file e d q =
+    let x = entered_of file d (addresses_of file d.nex) e in
+    elim (ℕ_discrete x.refusal 0) [
+      | yes z ↦ inl z
+      | no z ↦ inr (open-numbers file e (case-told file (case_of file) refl refl q).validation ∙ rw (ne_eqb x.refusal 0 z))
+    ]

@@ -16,6 +16,7 @@ use Rattle.geometry.specs.declared.units.EntryNumber.{EntryNumber}
 use Rattle.descriptor.specs.declared.numbers.DescriptorNumbers.{DescriptorNumbers}
 use Rattle.descriptor.specs.declared.validating.Validated.{Validated}
 use Rattle.descriptor.specs.declared.validating.Validated.TheVariants.{Numbers, Refused}
+use Rattle.descriptor.specs.Refusal.{refusal_in}
 use Rattle.descriptor.specs.FirstRecord.{addresses_of}
 use Rattle.descriptor.specs.Bounds.{Admitted, AdmittedIn}
 use Rattle.descriptor.specs.Answers.{validation_of, no_validation, Validates}
@@ -24,8 +25,8 @@ use Rattle.pieces.specs.EntryDescriptor.{section_of}
 use Rattle.pieces.specs.Tables.{section_named}
 use Rattle.pieces.proofs.Pieces.{described-in, section-placed, data-placed}
 use Rattle.entry.specs.Entered.{Entered}
-use Rattle.entry.specs.Opening.{entered_of}
-use Rattle.entry.proofs.Entering.{slot_lent}
+use Rattle.entry.specs.Opening.{number_rules, entered_of}
+use Rattle.entry.proofs.Entering.{slot_lent, entry-number, entered-refused}
 use Rattle.entry.proofs.OpenedEntry.{Known, known}
 use Rattle.handing.specs.declared.place.PartPlace.{PartPlace}
 use Rattle.handing.specs.Bounds.{Readable}
@@ -99,6 +100,12 @@ module _ (file : List ℕ) where
       → Validates file d addresses → p ≡ f addresses d → p ≡ part_in (validation_of file).numbers (f (validation_of file).addresses)
   unfolding part_in
   whole_numbers f q h = h ∙ rw q
+
+-- a number that no entry has gives no index words
+pub index_number : (file : List ℕ) (d : DescriptorNumbers) (addresses : List RecordNumber) (e : EntryNumber)
+    → refusal_in (number_rules d e) ≡ 12 → index_part file d addresses e ≡ no_part 12
+unfolding index_part
+index_number file d addresses e h = rw (entered-refused file d addresses e 12 (entry-number file d addresses e h) refl)
 
 -- the three parts of a file
 module _ (file : List ℕ) (e : EntryNumber) where

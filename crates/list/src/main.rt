@@ -2,21 +2,29 @@
 // What cannot be read or written is told on standard error.
 #![tactic(auto)]
 
-ghost use Rattle.std.specs.Prelude.{◌≡◌, take, IfOk, IfSome, OnOk};
-ghost use Rattle.std.specs.Io.KnownBytes.{Appends};
+ghost use Rattle.std.specs.Prelude.{◌<◌, length, take, IfOk, OnOk};
+ghost use Rattle.std.specs.Io.{ReadsAtMost};
+ghost use Rattle.std.specs.Io.KnownBytes.{Appends, Consumes, IsAtEnd};
 ghost use Rattle.listing.specs.Listing.{output_of};
 
 use listing::{INPUT_MAX, OUTPUT_ROOM};
-use std::alloc::Global;
 use std::io::{self, Read, Write};
 
-// Reads all of an input, or one byte more than it may have.
-fn read_input<R: Read + Drop>(alloc: Global, input: R) -> io::Result<Vec<u8>>
-    ensures { IfOk result (λ bytes. IfSome (R.remaining input) (λ all. bytes.items ≡ take 65537 all)) }
+// Reads until the bytes are full or the input ends, and answers how many were read.
+fn read_full<R: Read>(input: &mut R, bytes: &mut [u8]) -> io::Result<usize>
+    ensures within { ReadsAtMost result bytes.new }
+    ensures read { IfOk result (λ count. Consumes (R.remaining input.old) (R.remaining input.new) (take count bytes.new)) }
+    ensures ended { IfOk result (λ count. count < length bytes.new → IsAtEnd (R.remaining input.new)) }
 {
-    let mut bytes = Vec::new(alloc);
-    input.take(INPUT_MAX as u64 + 1).read_to_end(&mut bytes)?;
-    Ok(bytes)
+    let mut done = 0;
+    while done < bytes.len() {
+        let count = input.read(&mut bytes[done..])?;
+        if count == 0 {
+            break;
+        }
+        done += count;
+    }
+    Ok(done)
 }
 
 // Writes what is printed of an input.
@@ -36,9 +44,10 @@ fn tell(rt: &impl Eprint, what: &str, error: io::Error) {
 // Reads one byte more than an input may have, so that a longer one is known, and lists it. A read that
 // fails is not the end of the input, and nothing is listed then.
 fn main(rt: HostRuntime) {
-    match read_input(rt.alloc(), rt.stdin()) {
-        Ok(input) => {
-            if let Err(error) = write_listing(input.as_slice(), &mut rt.stdout()) {
+    let mut input = [0u8; INPUT_MAX + 1];
+    match read_full(&mut rt.stdin(), &mut input) {
+        Ok(count) => {
+            if let Err(error) = write_listing(&input[..count], &mut rt.stdout()) {
                 tell(&rt, "standard output", error);
             }
         }

@@ -1,14 +1,12 @@
 -- Laws of an entry's pieces: the tests that run over the sections, one section after the other, and where a piece stands that passed.
 -- Assumes nothing.
-use mathlib.Core.Path.{◌≡◌, refl, sym, ap, ◌∙◌}
-use mathlib.Core.Bool.{Bool, true, ◌&&◌, and-true, and_assoc, and-eq-true_iff}
+use mathlib.Core.Path.{◌≡◌, refl}
+use mathlib.Core.Bool.{Bool, true, ◌&&◌, and-eq-true_iff}
 use mathlib.Core.List.{List}
-use Prim.Native.Nat.{ℕ, zero, suc, ◌+◌, ◌^◌, ◌≤◌, ◌<◌}
+use Prim.Native.Nat.{ℕ, ◌+◌, ◌^◌, ◌≤◌, ◌<◌}
 use native.Mathlib.Omega.{arith}
-use native.Mathlib.Nat.{add-zero, zero-add}
 use native.Mathlib.Numerals.{add-one}
 use borrow.Author.Tests.{leb-true, le-leb, ne_eqb}
-use Rattle.std.specs.List.{list_all, range_with_len}
 use Rattle.words.specs.declared.byte_order.ByteOrder.{ByteOrder}
 use Rattle.words.specs.Word.{integer8, signed_of}
 use Rattle.words.specs.Range.{at_least}
@@ -104,11 +102,3 @@ sections-none file start nsec = refl
 pub apart-ends : (p q : Piece) → p.address.0 + p.words ≤ q.address.0 → apart p q ≡ true
 unfolding apart
 apart-ends p q l = rw (le-leb (p.address.0 + p.words) q.address.0 l)
-
--- a run passes where each of its tests does, which are looked at in turn
-pub run-list : {run test : ℕ → Bool} → Run run test → run 0 ≡ true → (n : ℕ) → list_all test (range_with_len 0 n) ≡ run n
-run-list {run} {test} r z n = sym (ap run (sym (zero-add n)) ∙ from 0 n ∙ ap (λ (b : Bool). b && list_all test (range_with_len 0 n)) z)
-  where
-    from : (a n : ℕ) → run (a + n) ≡ run a && list_all test (range_with_len a n)
-    from a zero = ap run (add-zero a) ∙ sym (and-true (run a))
-    from a (suc n) = let e : a + suc n ≡ a + 1 + n = omega arith in ap run e ∙ from (a + 1) n ∙ rw (r.next a, and_assoc)

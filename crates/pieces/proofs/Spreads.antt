@@ -78,8 +78,8 @@ module _ (file : List ℕ) (start nsec : ℕ) where
       (λ i l. apart-after (section_of file start nsec i) i (leb-true _ _ (run-test order-run i k l e)))
 
   -- which need no comparison
-  pub ordered_apart : {ordered : Bool} → ordered ≡ in_order file start nsec nsec → ordered ≡ true → ordered ≡ sections_apart file start nsec nsec
-  ordered_apart e h = h ∙ sym (ordered-apart nsec (sym e ∙ h))
+  pub ordered_apart : {ordered : Bool} → (ordered ≡ true → in_order file start nsec nsec ≡ true) → ordered ≡ true → ordered ≡ sections_apart file start nsec nsec
+  ordered_apart e h = h ∙ sym (ordered-apart nsec (e h))
 
   -- the pass over an entry of nword words
   module _ (nword : ℕ) where

@@ -1,11 +1,11 @@
 // The calls that read an entry, and the order check: a line of the call, the case's name and the answer.
-use super::printing::Case;
+use super::printing::{Case, Out};
 use super::reading::bytes_before;
 use classic::{
     EntryNumber, Open, check_order, data_array, data_array_place, data_array_refusal, index_words,
     index_words_place, index_words_refusal, open_entry, section, section_place, section_refusal,
 };
-use std::io::{self, Stdout};
+use std::io;
 
 // Opens an entry by its number.
 pub(crate) fn opened(case: Case, file: &[u8], asked: u64) -> io::Result<()> {
@@ -40,7 +40,7 @@ pub(crate) fn tabled(case: Case, file: &[u8], asked: u64) -> io::Result<()> {
 
 // Writes the words of a part, each behind a space, and ends the line: a word below 2^24 in the little order as that number, any
 // other as x and its four bytes as they stand.
-fn print_words(out: Stdout, bytes: &[u8]) -> io::Result<()> {
+fn print_words(out: Out, bytes: &[u8]) -> io::Result<()> {
     for word in bytes.as_chunks::<4>().0 {
         let number = u32::from_le_bytes(*word);
         if number < 1 << 24 {

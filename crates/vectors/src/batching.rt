@@ -4,19 +4,25 @@ use super::command::Way;
 use super::holding::{Held, end_call};
 use super::lists::{Handed, Lists, MOST};
 use super::printing::Case;
-use super::reading::{Label, Reader, at_most, int4s};
+use super::reading::{Label, Reader, at_most, int4s, padded};
 use classic::{Batched, OpenFile, append_batch, append_batch_through};
-use std::alloc::{AllocError, Global};
 use std::io;
 
-// The numbers of a list as counts, with zeros behind them.
-fn padded(alloc: Global, numbers: &[i64], count: usize) -> Result<Vec<u64>, AllocError> {
-    let mut counts = Vec::new(alloc);
-    for number in numbers {
-        counts.push(number.cast_unsigned())?;
+// Reads the counts that a line lists into rows, one for each entry, as many as there are. It is a call of its own, as are the commands
+// that read lists, so that what one of them holds does not add to the stack of the others.
+#[inline(never)]
+fn read_rows(lists: &mut Reader, rows: &mut [[u64; 5]]) {
+    if !lists.labelled(Label::Counts) {
+        return;
     }
-    counts.resize(count, 0)?;
-    Ok(counts)
+    for row in rows {
+        for place in row {
+            let Some(number) = lists.number() else {
+                return;
+            };
+            *place = number.cast_unsigned();
+        }
+    }
 }
 
 // Appends a batch, through the record held or without it.
@@ -50,20 +56,21 @@ fn append_rows(
 
 impl Run {
     // Writes the line of a batch: how many entries were accepted, the refusal, and where there were none whether bytes changed.
-    fn batched(&self, case: Case, answer: Batched, before: &[u8]) -> io::Result<()> {
+    fn batched(&self, case: Case, answer: Batched) -> io::Result<()> {
         case.begin("batch")?;
         print!(case.out; " accepted {}", answer.accepted)?;
         if answer.refusal != 0 {
             print!(case.out; " refused {}", answer.refusal)?;
         }
         if answer.accepted == 0 {
-            self.room.compare(case.out, before, 0)?;
+            self.room.compare(case.out, 0)?;
         }
         Ok(())
     }
 
     // Appends a batch: the line of a case that has a name, or of a refusal. The line hands in how many versions and rows of
     // counts, the bytes of index, sections and data, then lists behind their labels.
+    #[inline(never)]
     pub(crate) fn batch(
         &mut self,
         case: Case,
@@ -74,25 +81,25 @@ impl Run {
         lists: Reader,
     ) -> io::Result<()> {
         let mut lists = lists;
-        let bytes_before = self.room.copy(self.alloc)?;
+        self.room.copy();
         let held_before = self.held;
-        let listed = lists.list(self.alloc, Label::Versions, MOST)?;
-        let mut all = int4s(case.out, self.alloc, &listed)?;
-        all.resize(at_most(case.out, MOST, versions)?, 0)?;
-        let listed = lists.list(self.alloc, Label::Counts, 5 * MOST)?;
-        let table = padded(self.alloc, &listed, 5 * at_most(case.out, MOST, rows)?)?;
-        let rows = table.as_chunks::<5>().0;
-        let lists = Lists::read(case.out, self.alloc, lists)?;
+        let listed = int4s(case.out, &lists.list::<MOST>(Label::Versions))?;
+        let all = padded::<i32, MOST>(listed.as_slice());
+        let versions = &all[..at_most(case.out, MOST, versions)?];
+        let mut table = [[0; 5]; MOST];
+        read_rows(&mut lists, &mut table);
+        let rows = &table[..at_most(case.out, MOST, rows)?];
+        let lists = Lists::read(case.out, lists)?;
         let handed = lists.handed(case.out, counts)?;
         let mut held = held_before;
         let lent = self.room.lent.count;
         let file = &mut self.room.bytes[..lent];
-        let answer = append_rows(way, &mut held, file, &all, rows, handed);
+        let answer = append_rows(way, &mut held, file, versions, rows, handed);
         self.held = held;
         if case.name.is_empty() && answer.refusal == 0 {
             return Ok(());
         }
-        self.batched(case, answer, &bytes_before)?;
+        self.batched(case, answer)?;
         end_call(case, way, held_before, self.held, self.room.file())
     }
 }

@@ -2,10 +2,9 @@
 ghost use Rattle.std.specs.Prelude.{◌+◌, ◌≤◌, length, IfOk};
 
 use super::command::Width;
-use super::printing::wrong;
+use super::printing::{Out, wrong};
 use super::reading::{at_most, int4};
-use std::alloc::{AllocError, Global};
-use std::io::{self, Stdout};
+use std::io;
 
 // The most bytes of a file, those of P9.
 const FILE: usize = 789176;
@@ -15,6 +14,9 @@ const BEHIND: usize = 16400;
 
 // The bytes of the longest file and those behind it.
 const WATCHED: usize = FILE + BEHIND;
+
+// Those, and as many again for a copy of them.
+const ROOM: usize = 2 * WATCHED;
 
 // The bytes of a file that is kept.
 const SMALL: usize = 480;
@@ -27,16 +29,17 @@ pub(crate) struct Lent {
     ghost within: { count ≤ 789176 },
 }
 
-// The bytes that a file is made in, of which the first are lent, and a file kept for each letter.
+// The bytes that a file is made in, of which the first are lent, then a copy of them as a call finds them; and a file kept for each
+// letter.
 #[derive(Drop)]
 pub(crate) struct Room {
-    pub(crate) bytes: [u8; WATCHED],
+    pub(crate) bytes: [u8; ROOM],
     pub(crate) lent: Lent,
     kept: [[u8; SMALL]; 26],
 }
 
 // Which letter of the alphabet stands behind a space. Anything else makes the line wrong, and A stands in its place.
-fn letter(out: Stdout, text: &[u8]) -> io::Result<usize>
+fn letter(out: Out, text: &[u8]) -> io::Result<usize>
     ensures { IfOk result (λ n. n ≤ 25) }
 {
     match text {
@@ -50,7 +53,7 @@ fn letter(out: Stdout, text: &[u8]) -> io::Result<usize>
 
 // Writes a number of so many bytes at an offset, the most significant byte first where the order is big.
 fn put(
-    out: Stdout,
+    out: Out,
     file: &mut [u8],
     at: usize,
     width: Width,
@@ -89,7 +92,7 @@ fn put(
 
 // Writes numbers one after another from an offset on, as long as eight bytes follow. Where they do not, the line is wrong.
 fn put_all(
-    out: Stdout,
+    out: Out,
     file: &mut [u8],
     from: usize,
     width: Width,
@@ -107,14 +110,14 @@ fn put_all(
 }
 
 // Writes a file that was kept over the first bytes.
-fn overwrite(bytes: &mut [u8; WATCHED], file: [u8; SMALL]) {
+fn overwrite(bytes: &mut [u8; ROOM], file: [u8; SMALL]) {
     bytes[..SMALL].copy_from_slice(&file);
 }
 
 impl Room {
     // The room, all zeros, with nothing lent.
     pub(crate) fn new() -> Room {
-        let bytes = [0; WATCHED];
+        let bytes = [0; ROOM];
         let kept = [[0; SMALL]; 26];
         Room {
             bytes,
@@ -128,20 +131,17 @@ impl Room {
         &self.bytes[..self.lent.count]
     }
 
-    // The lent bytes and those behind them that are looked at too.
-    fn watched(&self) -> &[u8] {
-        &self.bytes[..self.lent.count + BEHIND]
-    }
-
-    // A copy of the bytes before a call.
-    pub(crate) fn copy(&self, alloc: Global) -> Result<Vec<u8>, AllocError> {
-        self.watched().to_vec(alloc)
+    // Copies the bytes before a call.
+    pub(crate) fn copy(&mut self) {
+        let end = self.lent.count + BEHIND;
+        self.bytes.copy_within(..end, WATCHED);
     }
 
     // Writes whether bytes changed since they were copied, from an offset on.
-    pub(crate) fn compare(&self, out: Stdout, before: &[u8], from: usize) -> io::Result<()> {
+    pub(crate) fn compare(&self, out: Out, from: usize) -> io::Result<()> {
         let from = from.min(BEHIND);
-        if self.watched().get(from..) == before.get(from..) {
+        let end = self.lent.count + BEHIND;
+        if self.bytes[from..end] == self.bytes[WATCHED + from..WATCHED + end] {
             print!(out; " unchanged")
         } else {
             print!(out; " changed")
@@ -149,7 +149,7 @@ impl Room {
     }
 
     // Lends the first bytes alone.
-    pub(crate) fn lend(&mut self, out: Stdout, count: i64) -> io::Result<()> {
+    pub(crate) fn lend(&mut self, out: Out, count: i64) -> io::Result<()> {
         let count = at_most(out, FILE, count)?;
         self.lent = Lent { count };
         Ok(())
@@ -162,7 +162,7 @@ impl Room {
     }
 
     // Keeps the file of the first bytes under a letter.
-    pub(crate) fn keep(&mut self, out: Stdout, text: &[u8]) -> io::Result<()> {
+    pub(crate) fn keep(&mut self, out: Out, text: &[u8]) -> io::Result<()> {
         let letter = letter(out, text)?;
         let mut file = [0; SMALL];
         file.copy_from_slice(&self.bytes[..SMALL]);
@@ -171,7 +171,7 @@ impl Room {
     }
 
     // Takes the file that is kept under a letter, and lends it.
-    pub(crate) fn take(&mut self, out: Stdout, text: &[u8]) -> io::Result<()> {
+    pub(crate) fn take(&mut self, out: Out, text: &[u8]) -> io::Result<()> {
         let letter = letter(out, text)?;
         let file = self.kept[letter];
         overwrite(&mut self.bytes, file);
@@ -183,7 +183,7 @@ impl Room {
     // that is neither.
     pub(crate) fn put(
         &mut self,
-        out: Stdout,
+        out: Out,
         from: usize,
         width: Width,
         numbers: &[i64],

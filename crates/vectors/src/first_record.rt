@@ -1,10 +1,10 @@
 // The calls that read the first record alone: a line of the call, the case's name and the answer.
-use super::printing::Case;
+use super::printing::{Case, Out};
 use classic::{
     DescriptorNumbers, ExtensionNumber, OpenFileAnswer, RecordNumber, Validated, extension_of,
     validate,
 };
-use std::io::{self, Stdout};
+use std::io;
 
 // Validates a file: admitted, or the refusal.
 pub(crate) fn validated(case: Case, file: &[u8]) -> io::Result<()> {
@@ -16,7 +16,7 @@ pub(crate) fn validated(case: Case, file: &[u8]) -> io::Result<()> {
 }
 
 // Writes the numbers of a descriptor and its 16 addresses.
-fn print_numbers(out: Stdout, d: DescriptorNumbers, addresses: &[RecordNumber]) -> io::Result<()> {
+fn print_numbers(out: Out, d: DescriptorNumbers, addresses: &[RecordNumber]) -> io::Result<()> {
     print!(out;
         " order {} reclen {} kind {} vind {}",
         d.order.0, d.reclen, d.kind, d.vind

@@ -1,13 +1,16 @@
 // The lists behind the numbers of an append, a batch or an update.
-ghost use Rattle.std.specs.Prelude.{◌≡◌, vec_len, IfOk};
-
-use super::printing::wrong;
-use super::reading::{Label, Reader, at_most, int4, int4s};
-use std::alloc::Global;
-use std::io::{self, Stdout};
+use super::printing::{Out, wrong};
+use super::reading::{Label, Reader, at_most, int4s, padded};
+use arrayvec::ArrayVec;
+use std::io;
 
 // The most numbers that a list of identifiers, lengths or versions has.
 pub(crate) const MOST: usize = 65;
+
+// The most words that are listed, and their bytes.
+const WORDS: usize = 66;
+
+const WORD_BYTES: usize = 4 * WORDS;
 
 // The most bytes of an index, of sections, of data or of a new content that are handed in.
 pub(crate) const PART: usize = 272;
@@ -16,10 +19,9 @@ pub(crate) const PART: usize = 272;
 // after another, then zeros.
 #[derive(Drop)]
 pub(crate) struct Lists {
-    ids: Vec<i32>,
-    lengths: Vec<i64>,
-    bytes: Vec<u8>,
-    ghost three_parts: { vec_len bytes ≡ 816 },
+    ids: ArrayVec<i32, MOST>,
+    lengths: ArrayVec<i64, MOST>,
+    bytes: [u8; 3 * PART],
 }
 
 // What is handed to an append or a batch: identifiers, lengths, and the bytes of the index, the sections and the data.
@@ -33,33 +35,31 @@ pub(crate) struct Handed<'a> {
 }
 
 // Reads the words listed, with which a line ends, as bytes, the least significant first; zeros stand behind them.
-pub(crate) fn listed_bytes(
-    out: Stdout,
-    alloc: Global,
+#[inline(never)]
+pub(crate) fn listed_bytes<const COUNT: usize>(
+    out: Out,
     mut lists: Reader,
-    count: usize,
-) -> io::Result<Vec<u8>>
-    ensures { IfOk result (λ bytes. vec_len bytes ≡ count) }
-{
-    let mut bytes = Vec::new(alloc);
-    for word in lists.list(alloc, Label::Words, 66)?.iter() {
-        let word = int4(out, *word)?;
-        bytes.extend_from_slice(&word.to_le_bytes())?;
+) -> io::Result<[u8; COUNT]> {
+    let words = int4s(out, &lists.list::<WORDS>(Label::Words))?;
+    let mut bytes = ArrayVec::<u8, WORD_BYTES>::new();
+    for word in words.as_slice() {
+        if bytes.try_extend_from_slice(&word.to_le_bytes()).is_err() {
+            break;
+        }
     }
     if !lists.rest.is_empty() {
         wrong(out)?;
     }
-    bytes.resize(count, 0)?;
-    Ok(bytes)
+    Ok(padded(bytes.as_slice()))
 }
 
 impl Lists {
     // Reads identifiers, lengths and words, each behind its label.
-    pub(crate) fn read(out: Stdout, alloc: Global, mut lists: Reader) -> io::Result<Lists> {
-        let ids = lists.list(alloc, Label::Ids, MOST)?;
-        let ids = int4s(out, alloc, &ids)?;
-        let lengths = lists.list(alloc, Label::Lengths, MOST)?;
-        let bytes = listed_bytes(out, alloc, lists, 3 * PART)?;
+    #[inline(never)]
+    pub(crate) fn read(out: Out, mut lists: Reader) -> io::Result<Lists> {
+        let ids = int4s(out, &lists.list(Label::Ids))?;
+        let lengths = lists.list(Label::Lengths);
+        let bytes = listed_bytes(out, lists)?;
         Ok(Lists {
             ids,
             lengths,
@@ -68,7 +68,7 @@ impl Lists {
     }
 
     // What is handed in, with so many bytes of index, of sections and of data.
-    pub(crate) fn handed(&self, out: Stdout, counts: [i64; 3]) -> io::Result<Handed<'_>> {
+    pub(crate) fn handed(&self, out: Out, counts: [i64; 3]) -> io::Result<Handed<'_>> {
         let [index, sections, values] = counts;
         let (index, rest) = self.bytes.split_at(at_most(out, PART, index)?);
         let (sections, rest) = rest.split_at(at_most(out, PART, sections)?);

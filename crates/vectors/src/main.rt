@@ -20,19 +20,17 @@ use command::{Command, Question, Width};
 use files::Room;
 use first_record::{described, extended, validated};
 use holding::{Held, hold};
-use printing::{Case, wrong};
-use reading::{Reader, at_most, bytes_before, cut, int4};
-use std::alloc::Global;
-use std::io::{self, Read, Stdout};
+use printing::{Case, Out, wrong};
+use reading::{Reader, at_most, bytes_before, cut, int4, read_full};
+use std::io;
 
 // A script has fewer bytes than this.
-const SCRIPT: u64 = 131072;
+const SCRIPT: usize = 131072;
 
-// A run of a script: where its lines go, the allocator, the file that the calls are made on, and the record that is held.
+// A run of a script: where its lines go, the file that the calls are made on, and the record that is held.
 #[derive(Drop)]
 struct Run {
-    out: Stdout,
-    alloc: Global,
+    out: Out,
     room: Room,
     held: Held,
 }
@@ -58,7 +56,7 @@ fn ask(case: Case, question: Question, numbers: &[i64], file: &[u8]) -> io::Resu
 }
 
 // The settings as the first record has them, from its code on.
-fn settings(out: Stdout, numbers: [i64; 8]) -> io::Result<Settings> {
+fn settings(out: Out, numbers: [i64; 8]) -> io::Result<Settings> {
     let [order, reclen, kind, vind, lind, flags, lex1, gex] = numbers;
     Ok(Settings {
         order: int4(out, order)?,
@@ -74,10 +72,9 @@ fn settings(out: Stdout, numbers: [i64; 8]) -> io::Result<Settings> {
 
 impl Run {
     // A run with nothing lent, kept or held.
-    fn new(rt: HostRuntime) -> Run {
+    fn new(out: Out) -> Run {
         Run {
-            out: rt.stdout(),
-            alloc: rt.alloc(),
+            out,
             room: Room::new(),
             held: Held::new(),
         }
@@ -159,13 +156,13 @@ impl Run {
         let name = tail.get(2..).unwrap_or(&[]);
         let (word, rest) = cut(head, b' ');
         let mut lists = Reader { rest };
-        let numbers = lists.numbers(self.alloc, 20)?;
+        let numbers = lists.numbers::<20>();
         let case = Case {
             out: self.out,
             name,
         };
         match Command::parse(word) {
-            Some(command) => self.run(case, command, &numbers, lists),
+            Some(command) => self.run(case, command, numbers.as_slice(), lists),
             None => wrong(self.out),
         }
     }
@@ -173,13 +170,14 @@ impl Run {
 
 // Reads the script and runs its lines. A read or a write that fails ends the run, and is its error.
 fn main(rt: HostRuntime) -> io::Result<()> {
-    let mut script = Vec::new(rt.alloc());
-    rt.stdin().take(SCRIPT).read_to_end(&mut script)?;
-    if script.len() as u64 == SCRIPT {
-        wrong(rt.stdout())?;
+    let out = Out(rt.stdout());
+    let mut script = [0; SCRIPT];
+    let count = read_full(&mut rt.stdin(), &mut script)?;
+    if count == SCRIPT {
+        wrong(out)?;
     }
-    let mut run = Run::new(rt);
-    for line in script.split(|byte| *byte == b'\n') {
+    let mut run = Run::new(out);
+    for line in script[..count].split(|byte| *byte == b'\n') {
         run.line(line)?;
     }
     Ok(())

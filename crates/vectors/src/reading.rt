@@ -1,9 +1,10 @@
 // Reading a line of the script: its numbers, and the lists behind their labels.
 ghost use Rattle.std.specs.Prelude.{◌≤◌, IfOk};
+ghost use Rattle.std.specs.Io.{ReadsAtMost};
 
-use super::printing::wrong;
-use std::alloc::{AllocError, Global};
-use std::io::{self, Stdout};
+use super::printing::{Out, wrong};
+use arrayvec::ArrayVec;
+use std::io::{self, Read, Stdin};
 
 // A list's label.
 #[derive(Clone, Copy)]
@@ -32,6 +33,21 @@ impl Label {
 #[derive(Clone, Copy)]
 pub(crate) struct Reader<'a> {
     pub(crate) rest: &'a [u8],
+}
+
+// Reads until the bytes are full or the input ends, and answers how many were read.
+pub(crate) fn read_full(input: &mut Stdin, bytes: &mut [u8]) -> io::Result<usize>
+    ensures { ReadsAtMost result bytes.new }
+{
+    let mut done = 0;
+    while done < bytes.len() {
+        let count = input.read(&mut bytes[done..])?;
+        if count == 0 {
+            break;
+        }
+        done += count;
+    }
+    Ok(done)
 }
 
 // The bytes before the first that is this one, and the bytes from it on.
@@ -64,7 +80,7 @@ fn leading_digits(text: &[u8]) -> (u64, &[u8]) {
 
 impl Reader<'_> {
     // Reads a space and a number, which may be negative; its digits stand for at most 2^63.
-    fn number(&mut self) -> Option<i64> {
+    pub(crate) fn number(&mut self) -> Option<i64> {
         let text = self.rest.strip_prefix(b" ")?;
         let negated = text.strip_prefix(b"-");
         let digits = negated.unwrap_or(text);
@@ -81,39 +97,45 @@ impl Reader<'_> {
         Some(bits.cast_signed())
     }
 
-    // Reads numbers, as many as there are and so many at most.
-    pub(crate) fn numbers(&mut self, alloc: Global, most: usize) -> Result<Vec<i64>, AllocError> {
-        let mut numbers = Vec::new(alloc);
-        for _ in 0..most {
+    // Reads numbers, as many as there are and the list holds.
+    pub(crate) fn numbers<const MOST: usize>(&mut self) -> ArrayVec<i64, MOST> {
+        let mut numbers = ArrayVec::new();
+        for _ in 0..MOST {
             let Some(number) = self.number() else {
                 break;
             };
-            numbers.push(number)?;
+            if numbers.try_push(number).is_err() {
+                break;
+            }
         }
-        Ok(numbers)
+        numbers
     }
 
-    // Reads the list behind a label, so many numbers at most; none if the label is another.
-    pub(crate) fn list(
-        &mut self,
-        alloc: Global,
-        label: Label,
-        most: usize,
-    ) -> Result<Vec<i64>, AllocError> {
+    // Whether a label comes next, which is read then.
+    pub(crate) fn labelled(&mut self, label: Label) -> bool {
         let Some((_, labelled)) = self.rest.split_first() else {
-            return Ok(Vec::new(alloc));
+            return false;
         };
         let (word, after) = cut(labelled, b' ');
         if word != label.word() {
-            return Ok(Vec::new(alloc));
+            return false;
         }
         self.rest = after;
-        self.numbers(alloc, most)
+        true
+    }
+
+    // Reads the list behind a label, as many numbers as it holds; none if the label is another.
+    pub(crate) fn list<const MOST: usize>(&mut self, label: Label) -> ArrayVec<i64, MOST> {
+        if self.labelled(label) {
+            self.numbers()
+        } else {
+            ArrayVec::new()
+        }
     }
 }
 
 // The Integer*4 with the last 32 bits of a number. A number that is no Integer*4 makes the line wrong.
-pub(crate) fn int4(out: Stdout, number: i64) -> io::Result<i32> {
+pub(crate) fn int4(out: Out, number: i64) -> io::Result<i32> {
     if i32::try_from(number).is_err() {
         wrong(out)?;
     }
@@ -122,16 +144,30 @@ pub(crate) fn int4(out: Stdout, number: i64) -> io::Result<i32> {
 }
 
 // Each number of a list as an Integer*4.
-pub(crate) fn int4s(out: Stdout, alloc: Global, numbers: &[i64]) -> io::Result<Vec<i32>> {
-    let mut int4s = Vec::new(alloc);
-    for number in numbers {
-        int4s.push(int4(out, *number)?)?;
+pub(crate) fn int4s<const MOST: usize>(
+    out: Out,
+    numbers: &ArrayVec<i64, MOST>,
+) -> io::Result<ArrayVec<i32, MOST>> {
+    let mut int4s = ArrayVec::new();
+    for number in numbers.as_slice() {
+        if int4s.try_push(int4(out, *number)?).is_err() {
+            break;
+        }
     }
     Ok(int4s)
 }
 
+// A list with zeros behind it, or its first numbers where there are more.
+pub(crate) fn padded<T: Copy + Default, const COUNT: usize>(numbers: &[T]) -> [T; COUNT] {
+    let mut all = [T::default(); COUNT];
+    for (place, number) in all.iter_mut().zip(numbers) {
+        *place = *number;
+    }
+    all
+}
+
 // A number of the script, which is 0 to `most`. Any other makes the line wrong, and 0 stands in its place.
-pub(crate) fn at_most(out: Stdout, most: usize, number: i64) -> io::Result<usize>
+pub(crate) fn at_most(out: Out, most: usize, number: i64) -> io::Result<usize>
     ensures { IfOk result (λ n. n ≤ most) }
 {
     match usize::try_from(number) {
@@ -145,7 +181,7 @@ pub(crate) fn at_most(out: Stdout, most: usize, number: i64) -> io::Result<usize
 
 // How many bytes stand before a word, which is counted from 1. A word that is none makes the line wrong, and the first stands in
 // its place.
-pub(crate) fn bytes_before(out: Stdout, word: i64) -> io::Result<usize>
+pub(crate) fn bytes_before(out: Out, word: i64) -> io::Result<usize>
     ensures { IfOk result (λ n. n ≤ 0x4000_0000) }
 {
     let before = at_most(out, 0x0fff_ffff, word.wrapping_sub(1))?;

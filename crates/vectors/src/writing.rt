@@ -62,8 +62,9 @@ fn update_content(
 impl Run {
     // Creates a file in the lent bytes: the line of a case that has a name, or of a refusal. Of an accepted file the bytes
     // behind the first record are compared.
+    #[inline(never)]
     pub(crate) fn create(&mut self, case: Case, settings: Settings) -> io::Result<()> {
-        let before = self.room.copy(self.alloc)?;
+        self.room.copy();
         let lent = self.room.lent.count;
         let refusal = create(&mut self.room.bytes[..lent], settings);
         if case.name.is_empty() && refusal == 0 {
@@ -72,17 +73,18 @@ impl Run {
         case.begin("create")?;
         if refusal != 0 {
             print!(case.out; " refused {refusal}")?;
-            self.room.compare(case.out, &before, 0)?;
+            self.room.compare(case.out, 0)?;
             return println!(case.out);
         }
         print!(case.out; " accepted")?;
         let words = usize::try_from(settings.reclen).unwrap_or(0);
-        self.room.compare(case.out, &before, 4 * words)?;
+        self.room.compare(case.out, 4 * words)?;
         println!(case.out; " validate {}", validate(self.room.file()).refusal)
     }
 
     // Appends an entry: the line of a case that has a name, or of a refusal. The line hands in a version, the bytes of index,
     // sections and data, then lists behind their labels.
+    #[inline(never)]
     pub(crate) fn append(
         &mut self,
         case: Case,
@@ -91,10 +93,10 @@ impl Run {
         counts: [i64; 3],
         lists: Reader,
     ) -> io::Result<()> {
-        let bytes_before = self.room.copy(self.alloc)?;
+        self.room.copy();
         let held_before = self.held;
         let version = int4(case.out, version)?;
-        let lists = Lists::read(case.out, self.alloc, lists)?;
+        let lists = Lists::read(case.out, lists)?;
         let handed = lists.handed(case.out, counts)?;
         let mut held = held_before;
         let lent = self.room.lent.count;
@@ -109,13 +111,14 @@ impl Run {
             print!(case.out; " entry {}", answer.number.0)?;
         } else {
             print!(case.out; " refused {}", answer.refusal)?;
-            self.room.compare(case.out, &bytes_before, 0)?;
+            self.room.compare(case.out, 0)?;
         }
         end_call(case, way, held_before, self.held, self.room.file())
     }
 
     // Updates a section: the line of a case that has a name, or of a refusal. The line hands in the entry, the identifier, the
     // bytes of the new content, then its words behind their label.
+    #[inline(never)]
     pub(crate) fn update(
         &mut self,
         case: Case,
@@ -125,9 +128,9 @@ impl Run {
         count: i64,
         lists: Reader,
     ) -> io::Result<()> {
-        let bytes_before = self.room.copy(self.alloc)?;
+        self.room.copy();
         let held_before = self.held;
-        let bytes = listed_bytes(case.out, self.alloc, lists, PART)?;
+        let bytes = listed_bytes::<PART>(case.out, lists)?;
         let count = at_most(case.out, PART, count)?;
         let identifier = int4(case.out, identifier)?;
         let number = EntryNumber(asked.cast_unsigned());
@@ -145,7 +148,7 @@ impl Run {
             print!(case.out; " accepted")?;
         } else {
             print!(case.out; " refused {refusal}")?;
-            self.room.compare(case.out, &bytes_before, 0)?;
+            self.room.compare(case.out, 0)?;
         }
         end_call(case, way, held_before, self.held, self.room.file())
     }

@@ -1,5 +1,5 @@
--- Reading words of an image: equal bytes, zero bytes, and where the bytes of a word were written. Assumes nothing.
-use Prim.Native.Nat.{ℕ, ◌+◌, ◌^◌, ◌≤◌, ◌<◌}
+-- Reading words of an image: a word in halves, equal bytes, zero bytes, and where the bytes of a word were written. Assumes nothing.
+use Prim.Native.Nat.{ℕ, ◌+◌, ◌*◌, ◌^◌, ◌≤◌, ◌<◌}
 use mathlib.Core.Path.{◌≡◌, ap, ◌∙◌, subst}
 use mathlib.Core.List.{List}
 use native.Mathlib.Omega.{arith}
@@ -11,11 +11,19 @@ use mir.Val.{bits, bytes, SFits}
 use mir.Facts.{Fits-of_z}
 use Rattle.image.specs.Image.{part, all_zero}
 use Rattle.image.specs.Writes.{Write, put, writes, Follows}
+use Rattle.image.proofs.Part.{part-add, length_part}
 use Rattle.image.proofs.Writes.{BehindOf, follow-read}
 use Rattle.words.specs.declared.byte_order.ByteOrder.{ByteOrder}
-use Rattle.words.specs.Word.{number, numeral, bits_at, signed_at, bits_of, signed_numeral}
-use Rattle.words.proofs.Number.{length-numeral, number-numeral, number-zero}
+use Rattle.words.specs.Word.{little_number, number, numeral, bits_at, signed_at, bits_of, signed_numeral}
+use Rattle.words.proofs.Number.{length-numeral, number-numeral, little-append, number-zero}
 use Rattle.words.proofs.Signed.{signed-bits, range}
+
+-- eight bytes are two words, the low one first
+pub little-halves : (image : List ℕ) (at : ℕ) → at + 8 ≤ length image
+    → little_number (part image at 8) ≡ little_number (part image at 4) + 4294967296 * little_number (part image (at + 4) 4)
+little-halves image at h =
+    ap little_number (part-add image at 4 4) ∙ little-append (part image at 4) (part image (at + 4) 4)
+    ∙ ap (λ (k : ℕ). little_number (part image at 4) + 256 ^ k * little_number (part image (at + 4) 4)) (length_part image at 4 (omega arith))
 
 -- bytes of a number are read as the number, and those of a value as the value
 pub bits-of : (o : ByteOrder) (w : Width) (image : List ℕ) (at u : ℕ) → u < 2 ^ bits w → part image at (length (numeral o (bytes w) u)) ≡ numeral o (bytes w) u → bits_at o w image at ≡ u

@@ -1,8 +1,8 @@
--- Laws of `number` and `numeral`, over the order and the width: lengths, the number read back from its bytes, and the number 0. Assumes nothing.
+-- Laws of `number` and `numeral`, over the order and the width: lengths, the number read back from its bytes, bytes turned by their number, and the number 0. Assumes nothing.
 use Prim.Native.Nat.{ℕ, zero, suc, ◌+◌, ◌*◌, ◌/◌, ◌%◌, ◌^◌, ◌<◌}
-use mathlib.Core.Path.{◌≡◌, refl, sym, ap, ap₂, ◌∙◌}
+use mathlib.Core.Path.{◌≡◌, refl, sym, ap, ap₂, ◌∙◌, subst}
 use mathlib.Core.Bool.{Bool, ◌&&◌, and_assoc, and_comm, and-true}
-use mathlib.Core.List.{List, [], ◌∷◌, ◌++◌, reverse_aux, reverse-reverse}
+use mathlib.Core.List.{List, [], ◌∷◌, ◌++◌, reverse, reverse_aux, reverse-reverse, reverse-append}
 use native.Mathlib.Omega.{arith}
 use native.Mathlib.Nat.{mul_assoc, pow-succ', pow-suc}
 use lib.Dec.{eqb}
@@ -52,6 +52,10 @@ pub bytes-onto : (xs ys : List ℕ) → Bytes xs → Bytes ys → Bytes (reverse
 bytes-onto [] ys h k = k
 bytes-onto (x ∷ xs) ys h k = bytes-onto xs (x ∷ ys) h.1 (h.0, k)
 
+bytes-append : (xs ys : List ℕ) → Bytes xs → Bytes ys → Bytes (xs ++ ys)
+bytes-append [] ys h k = k
+bytes-append (x ∷ xs) ys h k = (h.0, bytes-append xs ys h.1 k)
+
 bytes_drop : (n : ℕ) (xs : List ℕ) → Bytes xs → Bytes (drop n xs)
 bytes_drop zero xs h = h
 bytes_drop (suc n) [] h = tt
@@ -85,6 +89,24 @@ numeral-back (b ∷ bs) h =
 pub little-equal : (xs ys : List ℕ) → Bytes xs → Bytes ys → length xs ≡ length ys → little_number xs ≡ little_number ys → xs ≡ ys
 little-equal xs ys h k e n = sym (numeral-back xs h) ∙ ap₂ little_numeral e n ∙ numeral-back ys k
 
+-- eight bytes of a number are those of its lower half and then those of its upper half
+numeral-halves : (x : ℕ) → x < 2 ^ 64 → little_numeral 8 x ≡ little_numeral 4 (x % 4294967296) ++ little_numeral 4 (x / 4294967296)
+unfolding little_numeral
+numeral-halves x h =
+    let low = little_numeral 4 (x % 4294967296) in
+    let high = little_numeral 4 (x / 4294967296) in
+    let whole : little_number (low ++ high) ≡ x = little-append low high ∙ rw (little-back 4 (x % 4294967296) (omega arith), little-back 4 (x / 4294967296) (omega arith)) (omega arith) in
+    sym (ap (little_numeral 8) whole) ∙ numeral-back (low ++ high) (bytes-append low high (bytes-numeral 4 (x % 4294967296)) (bytes-numeral 4 (x / 4294967296)))
+
+-- turned round, each half is turned round and the two are exchanged
+pub reverse-halves : (x : ℕ) → x < 2 ^ 64 → little_number (reverse (little_numeral 8 x))
+    ≡ little_number (reverse (little_numeral 4 (x / 4294967296))) + 4294967296 * little_number (reverse (little_numeral 4 (x % 4294967296)))
+unfolding little_numeral
+reverse-halves x h =
+    let low = little_numeral 4 (x % 4294967296) in
+    let high = little_numeral 4 (x / 4294967296) in
+    ap (λ (bs : List ℕ). little_number (reverse bs)) (numeral-halves x h) ∙ ap little_number (reverse-append low high) ∙ little-append (reverse high) (reverse low)
+
 -- ---- in either order
 
 arranged-twice : (o : ByteOrder) (bs : List ℕ) → arranged o (arranged o bs) ≡ bs
@@ -95,6 +117,10 @@ length-arranged : (o : ByteOrder) (bs : List ℕ) → length (arranged o bs) ≡
 unfolding arranged
 length-arranged o bs = either (eqb o.0 0) (λ e. rw e) (λ e. rw e (length-reverse bs))
 
+bytes-arranged : (o : ByteOrder) (bs : List ℕ) → Bytes bs → Bytes (arranged o bs)
+unfolding arranged
+bytes-arranged o bs h = either (eqb o.0 0) (λ e. rw e h) (λ e. rw e (bytes-onto bs [] h tt))
+
 -- a number in n bytes has n bytes
 pub length-numeral : (o : ByteOrder) (n x : ℕ) → length (numeral o n x) ≡ n
 unfolding numeral
@@ -104,6 +130,21 @@ length-numeral o n x = length-arranged o (little_numeral n x) ∙ length-little 
 pub number-numeral : (o : ByteOrder) (n x : ℕ) → x < 256 ^ n → number o (numeral o n x) ≡ x
 unfolding number numeral
 number-numeral o n x h = ap little_number (arranged-twice o (little_numeral n x)) ∙ little-back n x h
+
+-- ---- bytes turned by their number: the number of their little-endian reading, and the little-endian bytes of their number
+
+-- bytes that are read as little-endian and then turned are read in their order
+pub number-turned : (o : ByteOrder) (bs : List ℕ) (n : ℕ) → Bytes bs → length bs ≡ n → number o (little_numeral n (little_number bs)) ≡ number o bs
+number-turned o bs n h e = subst (λ (k : ℕ). number o (little_numeral k (little_number bs)) ≡ number o bs) e (ap (number o) (numeral-back bs h))
+
+-- a number that is turned and then written as little-endian is written in its order
+pub numeral-turned : (o : ByteOrder) (n x : ℕ) {t : ℕ} → t ≡ number o (little_numeral n x) → little_numeral n t ≡ numeral o n x
+unfolding number numeral
+numeral-turned o n x e =
+    let bs = arranged o (little_numeral n x) in
+    ap (little_numeral n) e
+    ∙ subst (λ (k : ℕ). little_numeral k (little_number bs) ≡ bs) (length-arranged o (little_numeral n x) ∙ length-little n x)
+    (numeral-back bs (bytes-arranged o (little_numeral n x) (bytes-numeral n x)))
 
 -- ---- the number 0
 

@@ -22,16 +22,22 @@ or-zero a b =
     both_zero a b (bit_or a b) (λ p q. rw (p, q)) (λ z. (omega (arith, sum, second), omega (arith, sum, first)))
 
 -- a turn of a loop that keeps the bits of the words from an offset on
-pub seen_next : (image : List ℕ) (from done seen : ℕ) {word : ℕ} → word ≡ little_number (part image (from + 4 * done) 4) → eqb seen 0 ≡ all_zero (part image from (4 * done))
-    → eqb (bit_or seen word) 0 ≡ all_zero (part image from (4 * (done + 1)))
+pub seen_next : (image : List ℕ) (from done seen : ℕ) {word : ℕ} → word ≡ little_number (part image (from + done) 4) → eqb seen 0 ≡ all_zero (part image from done)
+    → eqb (bit_or seen word) 0 ≡ all_zero (part image from (done + 4))
 seen_next image from done seen {word} read e =
-    let before = part image from (4 * done) in
-    let here = part image (from + 4 * done) 4 in
-    let next : 4 * done + 4 ≡ 4 * (done + 1) = omega arith in
+    let before = part image from done in
+    let here = part image (from + done) 4 in
     or-zero seen word
     ∙ ap₂ ◌&&◌ e (ap (λ (n : ℕ). eqb n 0) read ∙ little-zero here)
     ∙ sym (zero-append before here)
-    ∙ ap all_zero (sym (part-add image from (4 * done) 4) ∙ ap (part image from) next)
+    ∙ ap all_zero (sym (part-add image from done 4))
+
+-- by the number of words that are done
+pub seen-words : (image : List ℕ) (from done seen : ℕ) {word : ℕ} → word ≡ little_number (part image (from + 4 * done) 4) → eqb seen 0 ≡ all_zero (part image from (4 * done))
+    → eqb (bit_or seen word) 0 ≡ all_zero (part image from (4 * (done + 1)))
+seen-words image from done seen read e =
+    let next : 4 * done + 4 ≡ 4 * (done + 1) = omega arith in
+    seen_next image from (4 * done) seen read e ∙ ap (λ (n : ℕ). all_zero (part image from n)) next
 
 -- bytes are all zero where their first half and their second are, which may share bytes in the middle
 pub halves-zero : (image : List ℕ) (from n half second : ℕ) → half ≤ n → n ≤ half + half → second ≡ from + (n - half)

@@ -5,8 +5,8 @@ use Rattle.words.specs.Word.{integer4}
 use Rattle.storing.specs.Handed.{Handed, handed_of}
 use Rattle.storing.proofs.Lengths.{read_back}
 use Rattle.batch.specs.declared.counts.Counts.{Counts}
-use Rattle.batch.specs.Batch.{Laid}
-use Rattle.batch.specs.Taking.{laid_of, batch_handed, entry_taken, left_behind, AppendsNext}
+use Rattle.batch.specs.Batch.{Laid, laid_of, batch_handed}
+use Rattle.batch.specs.Taking.{entry_taken, left_behind, AppendsNext}
 use Rattle.batch.proofs.Appending.{admitted-own}
 use Rattle.batch.proofs.InTurn.{Before, before-first, counts, version, entry-within, ended, before-next, all-accepted}
 use Rattle.batch.proofs.inner.append_in_turn.Goals as goal

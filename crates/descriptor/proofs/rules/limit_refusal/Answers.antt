@@ -6,7 +6,7 @@ use Rattle.words.specs.Range.{within}
 use Rattle.words.proofs.Ranges.{within-bounds}
 use Rattle.descriptor.proofs.Tests.{holds}
 use Rattle.descriptor.specs.Rules.{limit_refusal}
-use Rattle.descriptor.proofs.Refusals.{number_low, row-holds}
+use Rattle.descriptor.proofs.Refusals.{number_low, row-holds, row-broken}
 use Rattle.descriptor.proofs.Passed.{mex-high}
 use Rattle.descriptor.proofs.rules.limit_refusal.Goals as goal
 
@@ -55,7 +55,9 @@ returns-in_err-unless-7 c = grind (arith, number_low)
 
 pub returns-in_err-unless-8 : goal.returns-in_err-unless-8
 unfolding limit_refusal
-returns-in_err-unless-8 c = grind (arith, number_low)
+returns-in_err-unless-8 c =
+    let broken = row-broken _ 7 _ c.in_err-unless-8.ensures in
+    grind (arith, broken)
 
 pub returns-in_err-unless-9 : goal.returns-in_err-unless-9
 unfolding limit_refusal

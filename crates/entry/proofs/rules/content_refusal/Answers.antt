@@ -1,5 +1,5 @@
 -- `entry::rules::content_refusal` meets its contract: each test is a row of the table, in its order. Assumes nothing.
-use Rattle.std.proofs.Common.{sym}
+use Rattle.std.proofs.Common.{sym, ◌∙◌}
 use mir.Syntax.{w64}
 use Rattle.words.proofs.Ranges.{at_least-bounds}
 use Rattle.pieces.proofs.Pieces.{data-placed}
@@ -26,7 +26,7 @@ returns-in_default c = rw (sym c.if-not-at_least.ensures, sym c.if-not-data_with
 pub sections_apart-requires : goal.sections_apart-requires
 sections_apart-requires c =
     let s = spread-some _ _ _ _ c.in-Some.ensures in
-    (ending _ _ _ _ s.0, s.1)
+    (ending _ _ _ _ s.0, λ ordered. sym s.1 ∙ ordered)
 
 pub returns-then-not-sections_apart : goal.returns-then-not-sections_apart
 unfolding content_refusal

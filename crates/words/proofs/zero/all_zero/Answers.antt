@@ -5,7 +5,7 @@ use mathlib.Core.Bool.{◌&&◌}
 use native.Mathlib.Omega.{arith}
 use Rattle.image.specs.Image.{part, all_zero}
 use Rattle.words.specs.Word.{arranged, number, bits_at}
-use Rattle.words.proofs.Zeros.{or-zero, seen_next, halves-zero}
+use Rattle.words.proofs.Zeros.{or-zero, seen-words, halves-zero}
 use Rattle.words.proofs.zero.all_zero.Goals as goal
 
 pub loop-done-init : goal.loop-done-init
@@ -17,8 +17,8 @@ unfolding arranged number bits_at
 loop-done-preserved c =
     let image = c.args.image.now in
     let l = c.loop-done in (
-      seen_next image _ l.done l.first_bits c.read-first_bits.ensures l.invariant.0,
-      seen_next image _ l.done l.second_bits c.read-second_bits.ensures l.invariant.1,
+      seen-words image _ l.done l.first_bits c.read-first_bits.ensures l.invariant.0,
+      seen-words image _ l.done l.second_bits c.read-second_bits.ensures l.invariant.1,
     )
 
 pub returns : goal.returns

@@ -1,15 +1,18 @@
 -- `pieces::entry_words::EntryWords::apart_from` meets its contract: the sections are tested in turn. Assumes nothing.
-use Rattle.std.proofs.Common.{refl, ◌∙◌, rules, tests}
-use Rattle.std.proofs.Math.Nat.{sub-zero}
-use Rattle.std.proofs.lemmas.Iterator.{YieldsList-from_range}
-use Rattle.std.proofs.lemmas.Iterator.Search.{all_from_yields_List}
-use Rattle.pieces.specs.EntryDescriptor.{section_of}
-use Rattle.pieces.specs.Contents.{apart}
-use Rattle.pieces.proofs.Pieces.{apart-run, apart_none, run-list}
+use Rattle.std.proofs.Common.{sym, ◌∙◌, arith}
+use Rattle.words.proofs.Runs.{run-next, run-failed}
+use Rattle.pieces.proofs.Pieces.{apart-run, apart_none}
 use Rattle.pieces.proofs.entry_words.EntryWords.apart_from.Goals as goal
 
-pub returns : goal.returns
-returns c =
-    let e = c.args.self.now in
-    all_from_yields_List (λ i. apart (section_of e.file.now e.start e.nsec i) c.args.piece) _ _ _ c.all.ensures.ran (YieldsList-from_range 0 c.args.count c.args.count refl (sub-zero c.args.count)) (λ x b q k. search (rules, tests))
-    ∙ run-list (apart-run e.file.now e.start e.nsec c.args.piece) (apart_none e.file.now e.start e.nsec c.args.piece) c.args.count
+pub loop-i-init : goal.loop-i-init
+loop-i-init c = record { apart = apart_none _ _ _ _ }
+
+pub returns-then-not-pieces_apart : goal.returns-then-not-pieces_apart
+returns-then-not-pieces_apart c =
+    let met = rw c.section.ensures at c.if-not-pieces_apart.ensures in
+    sym (run-failed (apart-run _ _ _ _) c.loop-i.i _ (omega arith) (sym met))
+
+pub loop-i-preserved : goal.loop-i-preserved
+loop-i-preserved c =
+    let apart = rw c.section.ensures at c.if-not-pieces_apart.ensures in
+    record { apart = run-next (apart-run _ _ _ _) c.loop-i.i c.loop-i.invariant.apart ∙ sym apart }
