@@ -2,8 +2,8 @@
 use std::fmt::Display;
 use std::io::{self, Stdout, Write};
 
-// Standard output. A number goes there as a whole and other text byte by byte, so that where it leads to a pipe that is full and does
-// not wait, as much of a line stands in the pipe as there is room for.
+// Standard output. A number or a name goes there as a whole and other text byte by byte, so that a pipe that does not wait takes what it
+// has room for, up to the first byte, number or name that does not fit.
 #[derive(Clone, Copy)]
 pub(crate) struct Out(pub(crate) Stdout);
 
